@@ -10,17 +10,17 @@ use Rattle.case_notation.specs.declared.reader.parts.Kind.{Kind}
 use Rattle.case_notation.specs.declared.reader.parts.Kind.TheVariants as kind
 
 -- a case lies on its Switch
-pub data Part : Type 0 where
-  Block : (outer : List Located) → Part
-  Accept : (condition : ℕ) (outer : List Located) → Part
-  Reject : (condition : ℕ) (accept : b.Block) (outer : List Located) → Part
-  Cases : (selector : ℕ) (cases : List SwitchCase) (outer : List Located) → Part
-  Case : (value : SwitchValue) (fall_through : Bool) → Part
-  Turn : (outer : List Located) → Part
-  Continuing : (turn : b.Block) (outer : List Located) → Part
+pub data OpenedPart : Type 0 where
+  Block : (outer : List Located) → OpenedPart
+  Accept : (condition : ℕ) (outer : List Located) → OpenedPart
+  Reject : (condition : ℕ) (accept : b.Block) (outer : List Located) → OpenedPart
+  Cases : (selector : ℕ) (cases : List SwitchCase) (outer : List Located) → OpenedPart
+  Case : (value : SwitchValue) (fall_through : Bool) → OpenedPart
+  Turn : (outer : List Located) → OpenedPart
+  Continuing : (turn : b.Block) (outer : List Located) → OpenedPart
 
 -- a part of this kind
-abbrev pub part_as : Kind → (outer : List Located) → Part
+abbrev pub part_as : Kind → (outer : List Located) → OpenedPart
 part_as kind.Block outer = Block outer
 part_as (kind.Accept condition) outer = Accept condition outer
 part_as (kind.Reject condition accept) outer = Reject condition accept outer

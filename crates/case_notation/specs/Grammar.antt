@@ -122,7 +122,11 @@ unfoldable mutual
   statement_depth (Branch condition accept reject) = suc (max (depth accept) (depth reject))
   statement_depth (Switch selector cases) = suc (cases_depth cases)
   statement_depth (Loop body continuing condition) = suc (max (depth body) (depth continuing))
-  statement_depth _ = 0
+  statement_depth (Leaf acts statement span) = 0
+  statement_depth Break = 0
+  statement_depth Continue = 0
+  statement_depth (Return value) = 0
+  statement_depth Kill = 0
 
   pub cases_depth : Cases → ℕ
   cases_depth NoCase = 0

@@ -13,7 +13,7 @@ use Rattle.case_notation.specs.declared.reader.parts.Naming.{Naming}
 use Rattle.case_notation.specs.declared.reader.parts.Naming.TheVariants as naming
 use Rattle.case_notation.specs.declared.reader.parts.Brace.{Brace}
 use Rattle.case_notation.specs.declared.reader.parts.Brace.TheVariants as brace
-use Rattle.case_notation.specs.CaseParts.{Part, part_as, kind_of}
+use Rattle.case_notation.specs.CaseParts.{OpenedPart, part_as, kind_of}
 use Rattle.case_notation.specs.CaseParts as part
 use Rattle.case_notation.specs.declared.reader.parts.Wants.{Wants}
 use Rattle.case_notation.specs.declared.reader.parts.Wants.TheVariants as wants
@@ -22,58 +22,58 @@ use Rattle.case_notation.specs.CaseBlocks.{block_from, placed}
 use Rattle.case_notation.specs.Grammar.{emitting, call_of, store_of, control_barrier}
 
 -- what has been read so far: the open parts, the newest first, and the list at hand
-pub record State : Type 0 where
-  pub opened : List Part
+pub record ReadingState : Type 0 where
+  pub opened : List OpenedPart
   pub list : List Located
   pub wants : Wants
 
-abbrev pub wanting : List Part → List Located → Wants → Option State
+abbrev pub wanting : List OpenedPart → List Located → Wants → Option ReadingState
 wanting opened list wants = Some (record { opened = opened; list = list; wants = wants })
 
 -- a statement may begin
-abbrev pub ready : List Part → List Located → Option State
+abbrev pub ready : List OpenedPart → List Located → Option ReadingState
 ready opened list = wanting opened list (wants.Statement tail.Nothing)
 
-abbrev pub begun : State
+abbrev pub begun : ReadingState
 begun = record { opened = []; list = []; wants = wants.Statement tail.Nothing }
 
 -- one brace more is open
-abbrev pub enter : List Part → Part → Wants → Option State
+abbrev pub enter : List OpenedPart → OpenedPart → Wants → Option ReadingState
 enter opened part next = if nat_lt (length opened) 256 then wanting (part ∷ opened) [] next else None
 
 -- a case of the Switch at hand is whole
-unfoldable pub add_case : List Part → List Located → SwitchCase → Option State
+unfoldable pub add_case : List OpenedPart → List Located → SwitchCase → Option ReadingState
 add_case (part.Cases selector cases outer ∷ opened) list c =
     wanting (part.Cases selector (cases ++ c ∷ []) outer ∷ opened) list wants.CaseValue
 add_case opened list c = None
 
 -- the first list of the If or of the Loop at hand is closed
-unfoldable pub close_accept : List Part → List Located → Option State
+unfoldable pub close_accept : List OpenedPart → List Located → Option ReadingState
 close_accept (part.Accept c outer ∷ opened) list =
     wanting (part.Reject c (block_from list) outer ∷ opened) [] wants.Between
 close_accept opened list = None
 
-unfoldable pub close_turn : List Part → List Located → Option State
+unfoldable pub close_turn : List OpenedPart → List Located → Option ReadingState
 close_turn (part.Turn outer ∷ opened) list =
     wanting (part.Continuing (block_from list) outer ∷ opened) [] wants.Between
 close_turn opened list = None
 
 -- the Block, the If or the case at hand is closed
-unfoldable pub close_block : List Part → List Located → Option State
+unfoldable pub close_block : List OpenedPart → List Located → Option ReadingState
 close_block (part.Block outer ∷ opened) list = ready opened (outer ++ placed (ir.Block (block_from list)) ∷ [])
 close_block opened list = None
 
-unfoldable pub close_if : List Part → List Located → Option State
+unfoldable pub close_if : List OpenedPart → List Located → Option ReadingState
 close_if (part.Reject c accept outer ∷ opened) list =
     ready opened (outer ++ placed (ir.If c accept (block_from list)) ∷ [])
 close_if opened list = None
 
-unfoldable pub close_case : List Part → List Located → Option State
+unfoldable pub close_case : List OpenedPart → List Located → Option ReadingState
 close_case (part.Case value falls ∷ opened) list = add_case opened [] (SwitchCase' value (block_from list) falls)
 close_case opened list = None
 
 -- the list at hand is closed
-unfoldable pub close : List Part → List Located → Option State
+unfoldable pub close : List OpenedPart → List Located → Option ReadingState
 close (part.Block outer ∷ opened) list = close_block (part.Block outer ∷ opened) list
 close (part.Accept c outer ∷ opened) list = close_accept (part.Accept c outer ∷ opened) list
 close (part.Reject c accept outer ∷ opened) list = close_if (part.Reject c accept outer ∷ opened) list
@@ -84,19 +84,19 @@ close (part.Continuing turn outer ∷ opened) list =
 close opened list = None
 
 -- the Switch at hand is closed
-unfoldable pub close_switch : List Part → Option State
+unfoldable pub close_switch : List OpenedPart → Option ReadingState
 close_switch (part.Cases selector cases outer ∷ opened) =
     ready opened (outer ++ placed (ir.Switch selector cases) ∷ [])
 close_switch opened = None
 
 -- the Loop at hand ends
-unfoldable pub end_loop : List Part → List Located → Option ℕ → Option State
+unfoldable pub end_loop : List OpenedPart → List Located → Option ℕ → Option ReadingState
 end_loop (part.Continuing turn outer ∷ opened) list condition =
     ready opened (outer ++ placed (ir.Loop turn (block_from list) condition) ∷ [])
 end_loop opened list condition = None
 
 -- a token that is a statement by itself
-unfoldable pub put_alone : List Part → List Located → Token → Option State
+unfoldable pub put_alone : List OpenedPart → List Located → Token → Option ReadingState
 put_alone opened list token.Break = ready opened (list ++ placed ir.Break ∷ [])
 put_alone opened list token.Continue = ready opened (list ++ placed ir.Continue ∷ [])
 put_alone opened list token.Kill = ready opened (list ++ placed ir.Kill ∷ [])
@@ -104,7 +104,7 @@ put_alone opened list token.Barrier = ready opened (list ++ placed control_barri
 put_alone opened list t = None
 
 -- a token where a statement may begin
-unfoldable pub begin : List Part → List Located → Token → Option State
+unfoldable pub begin : List OpenedPart → List Located → Token → Option ReadingState
 begin opened list token.Emit = wanting opened list (wants.Name naming.First)
 begin opened list token.Block = wanting opened list (wants.Open brace.Block)
 begin opened list token.If = wanting opened list (wants.Name naming.Condition)
@@ -117,18 +117,18 @@ begin opened list token.Close = close opened list
 begin opened list t = put_alone opened list t
 
 -- the statement at hand gets no tail
-unfoldable pub settle : List Part → List Located → Tail → Option State
+unfoldable pub settle : List OpenedPart → List Located → Tail → Option ReadingState
 settle opened list tail.Nothing = ready opened list
 settle opened list (tail.Emit first) = ready opened (list ++ placed (emitting first first) ∷ [])
 settle opened list tail.Return = ready opened (list ++ placed (ir.Return None) ∷ [])
 settle opened list tail.Loop = end_loop opened list None
 settle opened list tail.Call = ready opened (list ++ placed (call_of None) ∷ [])
 
-abbrev pub begin_at : Token → State → Option State
+abbrev pub begin_at : Token → ReadingState → Option ReadingState
 begin_at t s = begin s.opened s.list t
 
 -- a tail of the statement at hand, or a token where a statement may begin
-unfoldable pub go_on : List Part → List Located → Tail → Token → Option State
+unfoldable pub go_on : List OpenedPart → List Located → Tail → Token → Option ReadingState
 go_on opened list (tail.Emit first) token.To = wanting opened list (wants.Name (naming.Last first))
 go_on opened list tail.Return (token.Name value) = ready opened (list ++ placed (ir.Return (Some value)) ∷ [])
 go_on opened list tail.Loop token.BreakIf = wanting opened list (wants.Name naming.BreakIf)
@@ -136,7 +136,7 @@ go_on opened list tail.Call token.Arrow = wanting opened list (wants.Name naming
 go_on opened list t w = option_and_then (begin_at w) (settle opened list t)
 
 -- the last name of a statement
-unfoldable pub put_named : List Part → List Located → Naming → ℕ → Option State
+unfoldable pub put_named : List OpenedPart → List Located → Naming → ℕ → Option ReadingState
 put_named opened list (naming.Last first) h =
     if nat_le first h then ready opened (list ++ placed (emitting first h) ∷ []) else None
 put_named opened list naming.BreakIf h = end_loop opened list (Some h)
@@ -145,7 +145,7 @@ put_named opened list naming.Result h = ready opened (list ++ placed (call_of (S
 put_named opened list n h = None
 
 -- a name
-unfoldable pub take_name : List Part → List Located → Naming → ℕ → Option State
+unfoldable pub take_name : List OpenedPart → List Located → Naming → ℕ → Option ReadingState
 take_name opened list naming.First h = wanting opened list (wants.Statement (tail.Emit h))
 take_name opened list naming.Condition h = wanting opened list (wants.Open (brace.Accept h))
 take_name opened list naming.Selector h = wanting opened list (wants.Open (brace.Cases h))
@@ -158,10 +158,10 @@ behind_brace (brace.Cases h) = wants.CaseValue
 behind_brace b = wants.Statement tail.Nothing
 
 -- the brace of a part
-unfoldable pub open_brace : List Part → List Located → Brace → Option State
+unfoldable pub open_brace : List OpenedPart → List Located → Brace → Option ReadingState
 open_brace opened list b = enter opened (part_as (kind_of b) list) (behind_brace b)
 
-unfoldable pub next : List Part → List Located → Wants → Token → Option State
+unfoldable pub next : List OpenedPart → List Located → Wants → Token → Option ReadingState
 next opened list (wants.Statement t) w = go_on opened list t w
 next opened list (wants.Name n) (token.Name h) = take_name opened list n h
 next opened list (wants.Open b) token.Open = open_brace opened list b
@@ -173,20 +173,20 @@ next opened list (wants.CaseRest v) token.Fall = wanting opened list (wants.Open
 next opened list (wants.CaseRest v) token.Open = open_brace opened list (brace.Case v false)
 next opened list w t = None
 
-abbrev pub step : State → Token → Option State
+abbrev pub step : ReadingState → Token → Option ReadingState
 step s t = next s.opened s.list s.wants t
 
 -- the block, where no part is open
-abbrev pub whole : List Part → List Located → Option Block
+abbrev pub whole : List OpenedPart → List Located → Option Block
 whole [] list = Some (block_from list)
 whole (p ∷ ps) list = None
 
-unfoldable pub end_at : List Part → List Located → Wants → Option Block
+unfoldable pub end_at : List OpenedPart → List Located → Wants → Option Block
 end_at opened list (wants.Statement t) = option_and_then (λ s. whole s.opened s.list) (settle opened list t)
 end_at opened list w = None
 
 -- what the tokens say
-abbrev pub finish : State → Option Block
+abbrev pub finish : ReadingState → Option Block
 finish s = end_at s.opened s.list s.wants
 
 abbrev pub reading_of : List Token → Option Block

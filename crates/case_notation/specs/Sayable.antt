@@ -1,6 +1,6 @@
 -- Bodies that the notation can say.
 use Rattle.std.specs.Prelude.{ℕ, Bool, true, false, List, [], ◌∷◌, Option, Some, None, ◌&&◌, IsTrue, length, nat_lt, nat_le}
-use Rattle.ir_statements.specs.declared.statements.Statement.{Statement}
+use Rattle.ir_statements.specs.declared.statements.Statement.{Statement, Switch'}
 use Rattle.ir_statements.specs.declared.statements.Statement as statement
 use Rattle.ir_statements.specs.Tree.{Stmt, Leaf, Block, Branch, Switch, Loop, Break, Continue, Return, Kill, Body, Done, Then, Cases, NoCase, OneCase}
 use Rattle.case_notation.specs.Bench.{names_of, callees_of}
@@ -24,7 +24,25 @@ is_sayable_leaf n callees (statement.Call f arguments result) =
     nat_lt f callees && (is_empty arguments && is_below_if_any n result)
 is_sayable_leaf n callees (statement.Store pointer value) = nat_lt pointer n && nat_lt value n
 is_sayable_leaf n callees (statement.ControlBarrier b) = true
-is_sayable_leaf n callees _ = false
+is_sayable_leaf n callees (statement.Block body) = false
+is_sayable_leaf n callees (statement.If condition accept reject) = false
+is_sayable_leaf n callees (Switch' selector shape row) = false
+is_sayable_leaf n callees (statement.Loop body continuing break_if) = false
+is_sayable_leaf n callees statement.Break = false
+is_sayable_leaf n callees statement.Continue = false
+is_sayable_leaf n callees (statement.Return value) = false
+is_sayable_leaf n callees statement.Kill = false
+is_sayable_leaf n callees (statement.MemoryBarrier barrier) = false
+is_sayable_leaf n callees (statement.ImageStore image coordinate array_index value) = false
+is_sayable_leaf n callees (statement.Atomic pointer fun value result) = false
+is_sayable_leaf n callees (statement.ImageAtomic image coordinate array_index fun value) = false
+is_sayable_leaf n callees (statement.WorkGroupUniformLoad pointer result) = false
+is_sayable_leaf n callees (statement.RayQuery query fun) = false
+is_sayable_leaf n callees (statement.SubgroupBallot result predicate) = false
+is_sayable_leaf n callees (statement.SubgroupCollectiveOperation op collective_op argument result) = false
+is_sayable_leaf n callees (statement.SubgroupGather mode argument result) = false
+is_sayable_leaf n callees (statement.CooperativeStore target source) = false
+is_sayable_leaf n callees (statement.RayPipelineFunction fun) = false
 
 unfoldable mutual
   -- each leaf is such an Emit, store, barrier or call, and each handle lies below n

@@ -17,31 +17,31 @@ IsValueText (U32 n) text = (n < 2 ^ 32) × (text ≡ decimal n)
 IsValueText Default text = text ≡ codes "default"
 
 -- the text of a token in a case of the bench; calls have words where there is a function to call
-abbrev pub IsTextOf : Bench → Token → List ℕ → Type 0
-IsTextOf bench token.Emit text = text ≡ codes "emit"
-IsTextOf bench token.To text = text ≡ codes ".."
-IsTextOf bench token.Block text = text ≡ codes "block"
-IsTextOf bench token.If text = text ≡ codes "if"
-IsTextOf bench token.Switch text = text ≡ codes "switch"
-IsTextOf bench token.Fall text = text ≡ codes "fall"
-IsTextOf bench token.Loop text = text ≡ codes "loop"
-IsTextOf bench token.BreakIf text = text ≡ codes "break_if"
-IsTextOf bench token.Break text = text ≡ codes "break"
-IsTextOf bench token.Continue text = text ≡ codes "continue"
-IsTextOf bench token.Return text = text ≡ codes "return"
-IsTextOf bench token.Kill text = text ≡ codes "kill"
-IsTextOf bench token.Store text = text ≡ codes "store"
-IsTextOf bench token.Barrier text = text ≡ codes "barrier"
-IsTextOf bench token.Call text = (has_callee bench ≡ true) × (text ≡ codes "call")
-IsTextOf bench token.Callee text = (has_callee bench ≡ true) × (text ≡ codes "f")
-IsTextOf bench token.Arrow text = (has_callee bench ≡ true) × (text ≡ codes "->")
-IsTextOf bench token.Open text = text ≡ codes "{"
-IsTextOf bench token.Close text = text ≡ codes "}"
-IsTextOf bench (token.Name h) text = slice_get (names_of bench) h ≡ Some text
-IsTextOf bench (token.Value v) text = IsValueText v text
+abbrev pub IsTokenText : Bench → Token → List ℕ → Type 0
+IsTokenText bench token.Emit text = text ≡ codes "emit"
+IsTokenText bench token.To text = text ≡ codes ".."
+IsTokenText bench token.Block text = text ≡ codes "block"
+IsTokenText bench token.If text = text ≡ codes "if"
+IsTokenText bench token.Switch text = text ≡ codes "switch"
+IsTokenText bench token.Fall text = text ≡ codes "fall"
+IsTokenText bench token.Loop text = text ≡ codes "loop"
+IsTokenText bench token.BreakIf text = text ≡ codes "break_if"
+IsTokenText bench token.Break text = text ≡ codes "break"
+IsTokenText bench token.Continue text = text ≡ codes "continue"
+IsTokenText bench token.Return text = text ≡ codes "return"
+IsTokenText bench token.Kill text = text ≡ codes "kill"
+IsTokenText bench token.Store text = text ≡ codes "store"
+IsTokenText bench token.Barrier text = text ≡ codes "barrier"
+IsTokenText bench token.Call text = (has_callee bench ≡ true) × (text ≡ codes "call")
+IsTokenText bench token.Callee text = (has_callee bench ≡ true) × (text ≡ codes "f")
+IsTokenText bench token.Arrow text = (has_callee bench ≡ true) × (text ≡ codes "->")
+IsTokenText bench token.Open text = text ≡ codes "{"
+IsTokenText bench token.Close text = text ≡ codes "}"
+IsTokenText bench (token.Name h) text = slice_get (names_of bench) h ≡ Some text
+IsTokenText bench (token.Value v) text = IsValueText v text
 
 -- each word is the text of the token at its place
 abbrev pub AreTextsOf : Bench → List Token → List (List ℕ) → Type 0
 AreTextsOf bench [] [] = Unit {0}
-AreTextsOf bench (t ∷ ts) (w ∷ ws) = IsTextOf bench t w × AreTextsOf bench ts ws
+AreTextsOf bench (t ∷ ts) (w ∷ ws) = IsTokenText bench t w × AreTextsOf bench ts ws
 AreTextsOf bench ts ws = ⊥

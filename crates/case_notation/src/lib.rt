@@ -12,4 +12,4 @@ mod value;
 mod words;
 
 pub use crate::bench::Bench;
-pub use crate::case::{Case, ReadError, read_case};
+pub use crate::case::{Case, CaseError, read_case};

@@ -14,7 +14,7 @@ mod stack;
 
 use crate::bench::Bench;
 use crate::build::{block_of, calling, emission, expression, storing, waiting};
-use crate::case::ReadError;
+use crate::case::CaseError;
 use crate::reader::parts::{Brace, Frame, Naming, Tail, Wants};
 use crate::token::{Token, token_of};
 use crate::words::first_word;
@@ -57,31 +57,31 @@ impl Reader {
     /// Takes the next token.
     #[inline(always)]
     #[tactic(auto, using(crate::proofs::Reading::Stack::stacks), unfolding(crate::specs::Reading::next, crate::specs::Reading::go_on, crate::specs::Reading::settle))]
-    pub fn step(&mut self, token: Token) -> Result<(), ReadError>
+    pub fn step(&mut self, token: Token) -> Result<(), CaseError>
         ensures { Steps (step (state_of self.old) token) result (state_of self.new) }
     {
         match self.wants {
             Wants::Statement(tail) => self.go_on(tail, token),
             Wants::Name(naming) => match token {
                 Token::Name(name) => self.take_name(naming, name),
-                _ => Err(ReadError::Unreadable),
+                _ => Err(CaseError::Unreadable),
             },
             Wants::Callee => match token {
                 Token::Callee => self.want(Wants::Statement(Tail::Call)),
-                _ => Err(ReadError::Unreadable),
+                _ => Err(CaseError::Unreadable),
             },
             Wants::Open(brace) => match token {
                 Token::Open => self.enter(brace),
-                _ => Err(ReadError::Unreadable),
+                _ => Err(CaseError::Unreadable),
             },
             Wants::Between => match token {
                 Token::Open => self.want(Wants::Statement(Tail::Nothing)),
-                _ => Err(ReadError::Unreadable),
+                _ => Err(CaseError::Unreadable),
             },
             Wants::CaseValue => match token {
                 Token::Value(value) => self.want(Wants::CaseRest(value)),
                 Token::Close => self.close_switch(),
-                _ => Err(ReadError::Unreadable),
+                _ => Err(CaseError::Unreadable),
             },
             Wants::CaseRest(value) => match token {
                 Token::Fall => self.want(Wants::Open(Brace::Case {
@@ -92,7 +92,7 @@ impl Reader {
                     value,
                     fall_through: false,
                 }),
-                _ => Err(ReadError::Unreadable),
+                _ => Err(CaseError::Unreadable),
             },
         }
     }
@@ -100,7 +100,7 @@ impl Reader {
     /// A tail of the newest statement, or a token where a statement may begin.
     #[inline(always)]
     #[tactic(auto, using(crate::proofs::Reading::Stack::stacks), unfolding(crate::specs::Reading::go_on, crate::specs::Reading::settle))]
-    fn go_on(&mut self, tail: Tail, token: Token) -> Result<(), ReadError>
+    fn go_on(&mut self, tail: Tail, token: Token) -> Result<(), CaseError>
         ensures { Moves (λ opened list. go_on opened list tail token) self.old result self.new }
     {
         match tail {
@@ -128,7 +128,7 @@ impl Reader {
 
     /// A token where a statement may begin, the newest one having no tail.
     #[inline(always)]
-    fn begin_behind(&mut self, tail: Tail, token: Token) -> Result<(), ReadError>
+    fn begin_behind(&mut self, tail: Tail, token: Token) -> Result<(), CaseError>
         ensures { Moves (λ opened list. option_and_then (begin_at token) (settle opened list tail)) self.old result self.new }
     {
         self.settle(tail)?;
@@ -138,7 +138,7 @@ impl Reader {
     /// Ends the newest statement with no tail.
     #[inline(never)]
     #[tactic(auto, using(crate::proofs::Reading::Stack::stacks), unfolding(crate::specs::Reading::settle))]
-    fn settle(&mut self, tail: Tail) -> Result<(), ReadError>
+    fn settle(&mut self, tail: Tail) -> Result<(), CaseError>
         ensures { Moves (λ opened list. settle opened list tail) self.old result self.new }
     {
         match tail {
@@ -156,7 +156,7 @@ impl Reader {
     /// A token where a statement may begin.
     #[inline(always)]
     #[tactic(auto, using(crate::proofs::Reading::Stack::stacks), unfolding(crate::specs::Reading::begin))]
-    fn begin(&mut self, token: Token) -> Result<(), ReadError>
+    fn begin(&mut self, token: Token) -> Result<(), CaseError>
         ensures { Moves (λ opened list. begin opened list token) self.old result self.new }
     {
         match token {
@@ -176,7 +176,7 @@ impl Reader {
     /// A token that is a statement by itself.
     #[inline(never)]
     #[tactic(auto, using(crate::proofs::Reading::Stack::stacks), unfolding(crate::specs::Reading::put_alone))]
-    fn put_alone(&mut self, token: Token) -> Result<(), ReadError>
+    fn put_alone(&mut self, token: Token) -> Result<(), CaseError>
         ensures { Moves (λ opened list. put_alone opened list token) self.old result self.new }
     {
         match token {
@@ -184,14 +184,14 @@ impl Reader {
             Token::Continue => self.put(Statement::Continue),
             Token::Kill => self.put(Statement::Kill),
             Token::Barrier => self.put(waiting()),
-            _ => Err(ReadError::Unreadable),
+            _ => Err(CaseError::Unreadable),
         }
     }
 
     /// A name.
     #[inline(always)]
     #[tactic(auto, using(crate::proofs::Reading::Stack::stacks), unfolding(crate::specs::Reading::take_name))]
-    fn take_name(&mut self, naming: Naming, name: u8) -> Result<(), ReadError>
+    fn take_name(&mut self, naming: Naming, name: u8) -> Result<(), CaseError>
         ensures { Moves (λ opened list. take_name opened list naming name) self.old result self.new }
     {
         match naming {
@@ -206,13 +206,13 @@ impl Reader {
     /// The last name of a statement.
     #[inline(never)]
     #[tactic(auto, using(crate::proofs::Reading::Stack::stacks), unfolding(crate::specs::Reading::put_named))]
-    fn put_named(&mut self, naming: Naming, name: u8) -> Result<(), ReadError>
+    fn put_named(&mut self, naming: Naming, name: u8) -> Result<(), CaseError>
         ensures { Moves (λ opened list. put_named opened list naming name) self.old result self.new }
     {
         match naming {
             Naming::Last(first) => {
                 if name < first {
-                    return Err(ReadError::Unreadable);
+                    return Err(CaseError::Unreadable);
                 }
                 self.put(emission(first, name))
             }
@@ -223,22 +223,22 @@ impl Reader {
                 self.put(statement)
             }
             Naming::First | Naming::Condition | Naming::Selector | Naming::Pointer => {
-                Err(ReadError::Unreadable)
+                Err(CaseError::Unreadable)
             }
         }
     }
 
     /// The body, where it is whole.
     #[tactic(auto, using(crate::proofs::Reading::Stack::stacks), unfolding(crate::specs::Reading::end_at))]
-    pub fn finish(mut self) -> Result<Block, ReadError>
+    pub fn finish(mut self) -> Result<Block, CaseError>
         ensures { Ends (finish (state_of self)) result }
     {
         let Wants::Statement(tail) = self.wants else {
-            return Err(ReadError::Unreadable);
+            return Err(CaseError::Unreadable);
         };
         self.settle(tail)?;
         if !self.opened.is_empty() {
-            return Err(ReadError::Unreadable);
+            return Err(CaseError::Unreadable);
         }
         let Reader {
             alloc: _,
@@ -251,18 +251,18 @@ impl Reader {
 }
 
 /// The body that the words of a text say, a word at a time.
-pub(crate) fn read_body(alloc: Global, bench: Bench, text: &[u8]) -> Result<Block, ReadError>
+pub(crate) fn read_body(alloc: Global, bench: Bench, text: &[u8]) -> Result<Block, CaseError>
     ensures found { IfOk result (λ b. SayBody bench (words_of text.now) (body_of no_operands b)) }
     ensures printable { IfOk result (λ _. IsPrintable text.now) }
     ensures made { IfOk result (λ b. b ≡ block_of (body_of no_operands b)) }
-    ensures none { IsErrOf result ReadError.Unreadable → (b : Body) → SayBody bench (words_of text.now) b → ⊥ }
+    ensures none { IsErrOf result CaseError.Unreadable → (b : Body) → SayBody bench (words_of text.now) b → ⊥ }
 {
     let mut reader = Reader::new(alloc);
     let mut rest = text;
     while let Some((word, after)) = first_word(rest) {
         rest = after;
         let Some(token) = token_of(bench, word) else {
-            return Err(ReadError::Unreadable);
+            return Err(CaseError::Unreadable);
         };
         reader.step(token)?;
     }

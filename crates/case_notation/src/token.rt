@@ -5,7 +5,7 @@ ghost use Rattle.std.specs.Str.{bytes_eq};
 ghost use Rattle.case_notation.specs.declared.bench.Bench.TheVariants as bench;
 ghost use Rattle.case_notation.specs.declared.token.Token as declared;
 ghost use Rattle.case_notation.specs.Lookup.{lookup, shared_words, own_words};
-ghost use Rattle.case_notation.specs.Text.{IsTextOf};
+ghost use Rattle.case_notation.specs.Text.{IsTokenText};
 
 use crate::bench::Bench;
 use crate::value::value_of;
@@ -179,8 +179,8 @@ fn call_meaning_of(word: &[u8]) -> Option<Token>
 /// What a word means in a case of the bench.
 #[inline]
 pub(crate) fn token_of(bench: Bench, word: &[u8]) -> Option<Token>
-    ensures found { IfSome result (λ t. IsTextOf bench t word.now) }
-    ensures none { IfNone result ((t : declared.Token) → IsTextOf bench t word.now → ⊥) }
+    ensures found { IfSome result (λ t. IsTokenText bench t word.now) }
+    ensures none { IfNone result ((t : declared.Token) → IsTokenText bench t word.now → ⊥) }
 {
     if let Some(token) = shared_meaning_of(word) {
         return Some(token);

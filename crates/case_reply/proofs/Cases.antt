@@ -9,7 +9,7 @@ use Rattle.ir_errors.specs.declared.function.FunctionError.{FunctionError}
 use Rattle.ir_flags.specs.Bits.{NO_STAGE}
 use Rattle.case_reply.specs.BenchModule.{bench_module}
 use Rattle.case_reply.specs.CaseJudgement.{IsPlainAnswer, IsJudgementOf, module_of, settings_of, stages_of_last}
-use Rattle.case_reply.specs.Line.{Replies, IsLineOf, reply_line}
+use Rattle.case_reply.specs.Line.{RepliesToCase, IsAnswerLine, reply_line}
 use Rattle.case_notation.specs.Case.{Case, HoldsBlock, Reads, case_of}
 use Rattle.naga_module.specs.ModuleJudgement.{Answer}
 use Rattle.check_faults.specs.declared.module.ModuleFault.TheVariants as told
@@ -22,22 +22,22 @@ judged_as c m r holds is a =
     subst (λ (n : Module). IsPlainAnswer (settings_of (case_of c)) n r) (is ∙ ap (bench_module c.bench) holds) a
 
 -- the replies to a case that was read
-pub replies_accepted : (input : List ℕ) (c : Case) (infos : ModuleInfo) → Reads input c → IsPlainAnswer (settings_of c) (module_of c) (Ok infos) → Replies input (Accepted (stages_of_last infos.functions))
-unfolding Replies IsJudgementOf IsLineOf reply_line
+pub replies_accepted : (input : List ℕ) (c : Case) (infos : ModuleInfo) → Reads input c → IsPlainAnswer (settings_of c) (module_of c) (Ok infos) → RepliesToCase input (Accepted (stages_of_last infos.functions))
+unfolding RepliesToCase IsJudgementOf IsAnswerLine reply_line
 replies_accepted input c infos reads (inl memory) = cc
 replies_accepted input c infos reads (inr judged) = (c, reads, (Ok infos, judged, (refl, refl)))
 
-pub replies_fault : (input : List ℕ) (c : Case) (handle : ℕ) (fault : FunctionError) → Reads input c → IsPlainAnswer (settings_of c) (module_of c) (Err (told.Function handle fault)) → Replies input (Fault fault)
-unfolding Replies IsJudgementOf IsLineOf reply_line
+pub replies_fault : (input : List ℕ) (c : Case) (handle : ℕ) (fault : FunctionError) → Reads input c → IsPlainAnswer (settings_of c) (module_of c) (Err (told.Function handle fault)) → RepliesToCase input (Fault fault)
+unfolding RepliesToCase IsJudgementOf IsAnswerLine reply_line
 replies_fault input c handle fault reads (inl memory) = cc
 replies_fault input c handle fault reads (inr judged) = (c, reads, (Err (told.Function handle fault), judged, (refl, refl)))
 
-pub replies_none : (input : List ℕ) → ((c : Case) → Reads input c → ⊥) → Replies input Unreadable
-unfolding Replies
+pub replies_none : (input : List ℕ) → ((c : Case) → Reads input c → ⊥) → RepliesToCase input Unreadable
+unfolding RepliesToCase
 replies_none input none = none
 
-pub replies_memory : (input : List ℕ) → Replies input Memory
-unfolding Replies
+pub replies_memory : (input : List ℕ) → RepliesToCase input Memory
+unfolding RepliesToCase
 replies_memory input = tt
 
 pub ruleset replying = (replies_accepted, replies_fault, replies_none, replies_memory)

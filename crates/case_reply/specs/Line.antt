@@ -42,17 +42,17 @@ memory_line = codes "memory" ++ newline
 
 -- The line of an answer about a module, and its status: the stages of the last function, or the fault of a function. No
 -- other answer has one: none is the judgement of a bench's module.
-unfoldable pub IsLineOf : Answer → List ℕ → ℕ → Type 0
-IsLineOf (Ok infos) line status = (line ≡ accepted_line (stages_of_last infos.functions)) × (status ≡ 0)
-IsLineOf (Err (told.Function handle fault)) line status = (line ≡ fault_line fault) × (status ≡ 1)
-IsLineOf (Err told.NotFit) line status = ⊥
-IsLineOf (Err (told.Global handle fault)) line status = ⊥
-IsLineOf (Err (told.EntryPoint index fault)) line status = ⊥
-IsLineOf (Err told.Memory) line status = ⊥
+unfoldable pub IsAnswerLine : Answer → List ℕ → ℕ → Type 0
+IsAnswerLine (Ok infos) line status = (line ≡ accepted_line (stages_of_last infos.functions)) × (status ≡ 0)
+IsAnswerLine (Err (told.Function handle fault)) line status = (line ≡ fault_line fault) × (status ≡ 1)
+IsAnswerLine (Err told.NotFit) line status = ⊥
+IsAnswerLine (Err (told.Global handle fault)) line status = ⊥
+IsAnswerLine (Err (told.EntryPoint index fault)) line status = ⊥
+IsAnswerLine (Err told.Memory) line status = ⊥
 
 -- the line of a case, and its status: those of its judgement
 abbrev pub IsCaseLine : Case → List ℕ → ℕ → Type 0
-IsCaseLine c line status = (answer : Answer) × IsJudgementOf c answer × IsLineOf answer line status
+IsCaseLine c line status = (answer : Answer) × IsJudgementOf c answer × IsAnswerLine answer line status
 
 -- The line of an input, and its status: those of the case that it reads as; where it reads as none, that it is
 -- unreadable.
@@ -62,8 +62,8 @@ IsLine input line status =
     ⊎ (((c : Case) → Reads input c → ⊥) × (line ≡ unreadable_line) × (status ≡ 2))
 
 -- the line of the input was written, or that there is no memory, and nothing else; and the status is the line's
-unfoldable pub Writes : List ℕ → Option (List ℕ) → Option (List ℕ) → ℕ → Type 0
-Writes input old new status =
+unfoldable pub WritesReply : List ℕ → Option (List ℕ) → Option (List ℕ) → ℕ → Type 0
+WritesReply input old new status =
     ((line : List ℕ) × IsLine input line status × Appends old new line) ⊎ (Appends old new memory_line × (status ≡ 3))
 
 -- the line and the status of a reply
@@ -84,8 +84,8 @@ abbrev pub IsDue : List ℕ → Reply → Type 0
 IsDue input reply = (c : Case) × Reads input c × IsCaseLine c (reply_line reply) (reply_status reply)
 
 -- the reply is the one that is due to the input, or want of memory
-unfoldable pub Replies : List ℕ → Reply → Type 0
-Replies input (Accepted stages) = IsDue input (Accepted stages)
-Replies input (Fault fault) = IsDue input (Fault fault)
-Replies input Unreadable = (c : Case) → Reads input c → ⊥
-Replies input Memory = Unit {0}
+unfoldable pub RepliesToCase : List ℕ → Reply → Type 0
+RepliesToCase input (Accepted stages) = IsDue input (Accepted stages)
+RepliesToCase input (Fault fault) = IsDue input (Fault fault)
+RepliesToCase input Unreadable = (c : Case) → Reads input c → ⊥
+RepliesToCase input Memory = Unit {0}

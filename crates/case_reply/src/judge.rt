@@ -3,22 +3,22 @@
 ghost use Rattle.std.specs.Prelude.{◌≡◌, [], IfOk, IfErr};
 ghost use Rattle.naga_module.specs.ModuleLaw.{IsToldOfFunctions};
 ghost use Rattle.case_reply.specs.CaseJudgement.{IsPlainAnswer, flags_of, settings_of, bench_infos, module_of, stages_of_last};
-ghost use Rattle.case_reply.specs.Line.{Replies};
+ghost use Rattle.case_reply.specs.Line.{RepliesToCase};
 ghost use Rattle.case_notation.specs.Case.{HoldsBlock, case_of};
 ghost use Rattle.case_notation.specs.Sayable.{IsSayable};
 
 use crate::bench_module::bench_module;
 use crate::line::Reply;
 use bitflags::Flags;
-use case_notation::case::{Case, ReadError, read_case};
+use case_notation::case::{Case, CaseError, read_case};
 use check_faults::ModuleFault;
 use ir_facts::valid::info::{FunctionInfo, ModuleInfo};
 use ir_facts::valid::settings::Settings;
 use ir_flags::capabilities::Capabilities;
 use ir_flags::valid::{ShaderStages, SubgroupOperationSet, TypeFlags, ValidationFlags};
 use ir_types::type_info::TypeInfo;
-use naga_layers::plain::Plain;
-use naga_module::check::{Given, check_module};
+use naga_layers::Plain;
+use naga_module::{Given, check_module};
 use std::alloc::{AllocError, Global};
 
 /// The flags of a case: all but those that its options take away.
@@ -100,12 +100,12 @@ pub(crate) fn stages_of_last(infos: &[FunctionInfo]) -> ShaderStages
 /// The reply to an input.
 #[tactic(auto, using(crate::proofs::Cases::replying))]
 pub fn reply_to(alloc: Global, input: &[u8]) -> Reply
-    ensures { Replies input.now result }
+    ensures { RepliesToCase input.now result }
 {
     let case = match read_case(alloc, input) {
         Ok(case) => case,
-        Err(ReadError::Unreadable) => return Reply::Unreadable,
-        Err(ReadError::Memory) => return Reply::Memory,
+        Err(CaseError::Unreadable) => return Reply::Unreadable,
+        Err(CaseError::Memory) => return Reply::Memory,
     };
     let answer = judge(alloc, case);
     match answer {

@@ -30,7 +30,7 @@ pub enum Reply {
 impl Reply {
     ghost use Rattle.case_reply.specs.Line.{reply_line, reply_status};
 
-    /// Writes the line that says it.
+    /// WritesReply the line that says it.
     #[tactic(auto, unfolding(crate::specs::Line::reply_line))]
     pub fn write<W: Write>(&self, writer: &mut W) -> io::Result<()>
         ensures { OnOk result (Appends (W.contents writer.old) (W.contents writer.new) (reply_line self.now)) }

@@ -1,1 +1,1 @@
-unfoldable pub use Rattle.case_reply.specs.Line.{Replies, Writes}
+unfoldable pub use Rattle.case_reply.specs.Line.{RepliesToCase, WritesReply}

@@ -5,4 +5,3 @@
 pub mod run;
 
 pub use crate::run::run_case;
-pub use naga_module::check_module;

@@ -1,9 +1,9 @@
 //! Reads one case from a reader, and writes its line to a writer.
 
 ghost use Rattle.std.specs.Prelude.{◌≡◌, ◌≤◌, ◌+◌, length, take, IfOk, IfSome};
-ghost use Rattle.case_reply.specs.Line.{Replies, Writes};
+ghost use Rattle.case_reply.specs.Line.{RepliesToCase, WritesReply};
 
-use case_notation::case::MOST_BYTES;
+use case_notation::case::MOST_CASE_BYTES;
 use case_reply::judge::reply_to;
 use case_reply::line::Reply;
 use std::alloc::{AllocError, Global};
@@ -29,15 +29,15 @@ fn fill<R: Read>(reader: &mut R, buffer: &mut [u8]) -> io::Result<usize>
 
 /// Room for a case, and for one byte more.
 fn room(alloc: Global) -> Result<Vec<u8>, AllocError>
-    ensures { IfOk result (λ v. length v.items ≡ MOST_BYTES + 1) }
+    ensures { IfOk result (λ v. length v.items ≡ MOST_CASE_BYTES + 1) }
 {
-    vec![in alloc; 0u8; MOST_BYTES + 1]
+    vec![in alloc; 0u8; MOST_CASE_BYTES + 1]
 }
 
 /// Reads one case into the buffer, and replies to it.
 fn reply_within<R: Read>(alloc: Global, reader: &mut R, buffer: &mut [u8]) -> io::Result<Reply>
-    requires { length buffer.old ≡ MOST_BYTES + 1 }
-    ensures { IfOk result (λ reply. IfSome (R.remaining reader.old) (λ input. Replies input reply)) }
+    requires { length buffer.old ≡ MOST_CASE_BYTES + 1 }
+    ensures { IfOk result (λ reply. IfSome (R.remaining reader.old) (λ input. RepliesToCase input reply)) }
 {
     let count = fill(reader, buffer)?;
     Ok(reply_to(alloc, &buffer[..count]))
@@ -46,7 +46,7 @@ fn reply_within<R: Read>(alloc: Global, reader: &mut R, buffer: &mut [u8]) -> io
 /// Reads one case, and replies to it.
 #[tactic(auto, using(crate::proofs::Cases::memory_any))]
 fn reply<R: Read>(alloc: Global, reader: &mut R) -> io::Result<Reply>
-    ensures { IfOk result (λ reply. IfSome (R.remaining reader.old) (λ input. Replies input reply)) }
+    ensures { IfOk result (λ reply. IfSome (R.remaining reader.old) (λ input. RepliesToCase input reply)) }
 {
     match room(alloc) {
         Ok(mut buffer) => reply_within(alloc, reader, buffer.as_mut_slice()),
@@ -58,11 +58,11 @@ fn reply<R: Read>(alloc: Global, reader: &mut R) -> io::Result<Reply>
 ///
 /// An Err is that of the read or the write that failed. After a failed read nothing is written. After a failed write a
 /// part of the line may have been. The contract is about an Ok, of a reader and a writer whose bytes are known. At
-/// most one byte more is read than a case may have ([`MOST_BYTES`]).
+/// most one byte more is read than a case may have ([`MOST_CASE_BYTES`]).
 #[tactic(auto, using(crate::proofs::Cases::reply_writes))]
 pub fn run_case<R: Read, W: Write>(alloc: Global, reader: &mut R, writer: &mut W) -> io::Result<u8>
     ensures { IfOk result (λ status. IfSome (R.remaining reader.old) (λ input.
-        Writes input (W.contents writer.old) (W.contents writer.new) status)) }
+        WritesReply input (W.contents writer.old) (W.contents writer.new) status)) }
 {
     let reply = reply(alloc, reader)?;
     reply.write(writer)?;

@@ -31,7 +31,7 @@ use Rattle.check_scope.specs.walk.Table.{with_all, with_puts}
 use Rattle.check_statement.specs.walk.Walk.{puts, body_puts, puts_to_continue, behind_loop_body, own_answer, parts_answer, stmt_answer, body_answer, cases_answer, break_if_answer}
 use Rattle.check_flow.specs.walk.Emitted.{place}
 use Rattle.check_scope.proofs.Columns.{all-append}
-use Rattle.check_scope.proofs.Refusals.{passes, stops_first, stops_next, answers_next}
+use Rattle.ir_facts.proofs.Refusals.{passes, stops_first, stops_next, answers_next}
 use Rattle.ir_errors.specs.declared.function.FunctionError.{FunctionError}
 
 acts_put : (acts : List Act) (s : Handles) → with_acts s acts ≡ with_all s (puts_of acts)

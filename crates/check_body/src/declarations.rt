@@ -1,9 +1,7 @@
 //! The checks of what a function declares: naga's `validate_function` up to its expressions.
 
 ghost use Rattle.std.specs.Prelude.{◌≡◌, ◌<◌, IfOk, IfSome, Some, length};
-ghost use Rattle.std.specs.Result.{result_err};
-ghost use Rattle.ir_arena.specs.Points.{first_fault};
-ghost use Rattle.ir_facts.specs.Answers.{Answers, FirstOf};
+ghost use Rattle.ir_facts.specs.Answers.{Answers, Finds, FirstOf};
 ghost use Rattle.check_scope.specs.Context.{ContextFits};
 ghost use Rattle.check_statement.specs.Declarations.{name_or_empty, variable_points, variables_points, takes_arguments, argument_points, arguments_points, result_points, declaration_points};
 ghost use Rattle.check_scope.specs.walk.SeenContext.{context_of};
@@ -188,7 +186,7 @@ fn check_result(
     declared: Option<FunctionResult>,
 ) -> Result<(), FunctionError>
     requires { IfSome declared (λ d. d.ty < length infos.now) }
-    ensures { result_err result ≡ first_fault (result_points infos.now entry_point declared) }
+    ensures { Finds (FirstOf (result_points infos.now entry_point declared)) result }
 {
     let Some(declared) = declared else {
         return Ok(());

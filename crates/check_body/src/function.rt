@@ -17,14 +17,15 @@ ghost use Rattle.check_statement.specs.walk.Walk.{puts, body_puts, puts_to_conti
 
 use check_scope::context::BlockContext;
 use check_scope::refuse::answer_of_function;
-use check_scope::refused::Refused;
 use check_scope::results::is_to_fill;
 use check_scope::table::{FilledColumn, ScopeColumn, Table};
 use check_statement::rarer::check_rarer;
 use check_statement::results::check_filled;
 use check_statement::state::{BodyOutcome, advance};
 use check_statement::statement::{check_break_if, is_frequent, validate_frequent};
+use ir_arena::Refused;
 use ir_arena::handle::Handle;
+use ir_errors::function::FunctionError;
 use ir_statements::statements::{Block, Located, Statement, SwitchCase};
 use naga_runs::Abilities;
 use std::alloc::Global;
@@ -35,7 +36,7 @@ pub fn validate_body(
     alloc: Global,
     table: &mut Table,
     context: &BlockContext,
-) -> Result<BodyOutcome, Refused>
+) -> Result<BodyOutcome, Refused<FunctionError>>
     requires context { ContextFits (context_of context.now) }
     requires ready { IsBodyReady (context_of context.now) (body_of (context_of context.now).fun) }
     ensures { Answers (Exactly (body_left (context_of context.now) (body_judgement (context_of context.now)))) result }
@@ -95,7 +96,7 @@ fn validate_nested(
     context: &BlockContext,
     abilities: &Abilities,
     located: &Located,
-) -> Result<bool, Refused>
+) -> Result<bool, Refused<FunctionError>>
     requires context { ContextFits (context_of context.now) }
     requires ready { IsStatementReady (context_of context.now) (tree_of (context_of context.now) located.now) }
     requires table { IsTableOf (context_of context.now) table.old }
@@ -163,7 +164,7 @@ fn validate_loop_body(
     context: &BlockContext,
     abilities: &Abilities,
     block: &Block,
-) -> Result<Option<usize>, Refused>
+) -> Result<Option<usize>, Refused<FunctionError>>
     requires context { ContextFits (context_of context.now) }
     requires ready { IsBodyReady (context_of context.now) (block_of (context_of context.now) block.now) }
     requires table { IsTableOf (context_of context.now) table.old }
@@ -195,7 +196,7 @@ fn validate_statements(
     context: &BlockContext,
     abilities: &Abilities,
     block: &Block,
-) -> Result<bool, Refused>
+) -> Result<bool, Refused<FunctionError>>
     requires context { ContextFits (context_of context.now) }
     requires ready { IsBodyReady (context_of context.now) (block_of (context_of context.now) block.now) }
     requires table { IsTableOf (context_of context.now) table.old }
@@ -223,7 +224,7 @@ fn validate_statement(
     context: &BlockContext,
     abilities: &Abilities,
     located: &Located,
-) -> Result<bool, Refused>
+) -> Result<bool, Refused<FunctionError>>
     requires context { ContextFits (context_of context.now) }
     requires ready { IsStatementReady (context_of context.now) (tree_of (context_of context.now) located.now) }
     requires table { IsTableOf (context_of context.now) table.old }
@@ -254,7 +255,7 @@ fn validate_block(
     context: &BlockContext,
     abilities: &Abilities,
     block: &Block,
-) -> Result<bool, Refused>
+) -> Result<bool, Refused<FunctionError>>
     requires context { ContextFits (context_of context.now) }
     requires ready { IsBodyReady (context_of context.now) (block_of (context_of context.now) block.now) }
     requires table { IsTableOf (context_of context.now) table.old }
@@ -280,7 +281,7 @@ fn validate_cases(
     context: &BlockContext,
     abilities: &Abilities,
     cases: &[SwitchCase],
-) -> Result<bool, Refused>
+) -> Result<bool, Refused<FunctionError>>
     requires context { ContextFits (context_of context.now) }
     requires ready { AreCasesReady (context_of context.now) (cases_of (context_of context.now) cases.now) }
     requires table { IsTableOf (context_of context.now) table.old }

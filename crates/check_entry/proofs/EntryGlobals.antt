@@ -11,7 +11,7 @@ use Rattle.ir_flags.specs.declared.valid.ValidationFlags.{ValidationFlags}
 use Rattle.ir_facts.specs.Meaning.{Meaning}
 use Rattle.check_entry.specs.UsedGlobals.{binding_points, use_points, used_global_points, points_if_used, global_points}
 use Rattle.check_faults.specs.declared.entry.EntryPointError.{EntryPointError}
-use Rattle.check_scope.proofs.Refusals.{fault_first, fault_second}
+use Rattle.ir_facts.proofs.Refusals.{fault_first, fault_second}
 use Rattle.ir_facts.specs.Answers.{Finds, FirstOf}
 
 module _ (below : Meaning) (flags : ValidationFlags) (program : Module) (ep : EntryPoint) (uses : List GlobalUse) (h : ℕ) (g : GlobalVariable) (given : GlobalUse) (is : slice_get uses h ≡ Some given) (some : (given.0 == 0) ≡ false) where

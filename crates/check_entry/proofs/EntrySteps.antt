@@ -12,32 +12,15 @@ use Rattle.check_entry.specs.EntryFaults.{EntryFault, OfArgument, OfResult, faul
 use Rattle.check_entry.specs.EntryAnswers.{EntryPoints}
 use Rattle.check_faults.specs.declared.entry.EntryPointError.{EntryPointError}
 use Rattle.check_faults.specs.declared.entry.EntryPointError.TheVariants as fault
-use Rattle.check_scope.proofs.Refusals.{fault_first, fault_second}
-use Rattle.check_faults.specs.RefusedEntries.{IsRefusalFor}
+use Rattle.ir_facts.proofs.Refusals.{fault_first, fault_second, refuses_first, refuses_second}
+use Rattle.ir_arena.specs.Refusals.{IsRefusalFor}
 use Rattle.ir_facts.specs.Answers.{Answers, FirstOf, IsFirstFault, read_by, refusal_read_by}
 
 pub ruleset finding = (fault_first, fault_second)
 
--- a refusal at the first of them
-pub meets_first : {T : Type 0} (r : Result T (Refusal EntryPointError)) (first second : EntryPoints) → IsErr r → Answers (FirstOf first) r → Answers (FirstOf (first ++ second)) r
-meets_first (Err (refusal.Fault f)) first second e h = first_of_both first second ∙ ap (λ o. option_or o (first_fault second)) h
-meets_first (Err refusal.Memory) first second e h = tt
-meets_first (Ok t) first second e h = cc
+pub ruleset meeting = (refuses_first, refuses_second)
 
--- an answer at the second, where no point of the first fails
-pub meets_second : {T : Type 0} (r : Result T (Refusal EntryPointError)) (first second : EntryPoints) → first_fault first ≡ None → Answers (FirstOf second) r → Answers (FirstOf (first ++ second)) r
-meets_second (Ok t) first second e h = first_of_both first second ∙ ap (λ o. option_or o (first_fault second)) e ∙ h
-meets_second (Err (refusal.Fault f)) first second e h = first_of_both first second ∙ ap (λ o. option_or o (first_fault second)) e ∙ h
-meets_second (Err refusal.Memory) first second e h = tt
-
-pub ruleset meeting = (meets_first, meets_second)
-
--- the refusal for the first fault: as it is, and as contracts see it
-pub refuses_fault : (fault : EntryPointError) (given : Refusal EntryPointError) (points : EntryPoints) → IsRefusalFor fault given →
-    Some fault ≡ first_fault points → IsFirstFault points given
-refuses_fault fault (refusal.Fault f) points is h = sym h ∙ ap Some (sym is)
-refuses_fault fault refusal.Memory points is h = tt
-
+-- the refusal for the first fault, as contracts see it
 pub refuses_as : (fault : EntryPointError) (given : Refusal EntryPointError) (points : List (Point EntryFault)) → IsRefusalFor fault given →
     first_fault points ≡ Some (fault_of fault) → IsFirstFault points (refusal_read_by fault_of given)
 refuses_as fault (refusal.Fault f) points is h = h ∙ ap (λ e. Some (fault_of e)) (sym is)

@@ -20,12 +20,28 @@ use Rattle.check_faults.specs.declared.entry.EntryPointError.TheVariants as faul
 
 -- the space of work groups, and that of immediates
 abbrev pub is_work_group : AddressSpace → Bool
+is_work_group space.Function = false
+is_work_group space.Private = false
 is_work_group space.WorkGroup = true
-is_work_group _ = false
+is_work_group space.Uniform = false
+is_work_group (space.Storage access) = false
+is_work_group space.Handle = false
+is_work_group space.Immediate = false
+is_work_group space.TaskPayload = false
+is_work_group space.RayPayload = false
+is_work_group space.IncomingRayPayload = false
 
 abbrev pub is_immediate : AddressSpace → Bool
+is_immediate space.Function = false
+is_immediate space.Private = false
+is_immediate space.WorkGroup = false
+is_immediate space.Uniform = false
+is_immediate (space.Storage access) = false
+is_immediate space.Handle = false
 is_immediate space.Immediate = true
-is_immediate _ = false
+is_immediate space.TaskPayload = false
+is_immediate space.RayPayload = false
+is_immediate space.IncomingRayPayload = false
 
 -- a global that is there, in a space of which this holds
 abbrev pub space_is : (AddressSpace → Bool) → Option GlobalVariable → Bool

@@ -22,7 +22,7 @@ use Rattle.ir_facts.specs.declared.valid.info.FunctionInfo.{FunctionInfo}
 use Rattle.ir_facts.specs.declared.valid.settings.Settings.{Settings}
 use Rattle.ir_types.specs.declared.type_info.TypeInfo.{TypeInfo}
 use Rattle.ir_types.specs.TypeInfos.{type_has}
-use Rattle.check_varyings.specs.Varyings.{Item, Part, Placed, is_built_in, item_points, group_points, placed_parts, parts_of}
+use Rattle.check_varyings.specs.Varyings.{Item, VaryingPart, Placed, is_built_in, item_points, group_points, placed_parts, parts_of}
 use Rattle.check_varyings.specs.declared.varying.MeshOutputType.{MeshOutputType}
 use Rattle.check_varyings.specs.declared.varying.MeshOutputType.TheVariants.{Neither, VertexOutput, PrimitiveOutput}
 use Rattle.check_varyings.specs.declared.varying.VaryingPlace.{VaryingPlace}
@@ -40,7 +40,7 @@ abbrev pub is_three_counts : TypeInner → Bool
 is_three_counts i = is_same_inner i (inner.Vector Tri (record { kind = kind.Uint; width = 4 }))
 
 -- one of these parts is this built-in
-abbrev pub has_built_in : BuiltIn → List Part → Bool
+abbrev pub has_built_in : BuiltIn → List VaryingPart → Bool
 has_built_in b parts = list_any (is_built_in b) parts
 
 -- exactly one of three
@@ -51,7 +51,7 @@ is_one_of_three false false true = true
 is_one_of_three _ _ _ = false
 
 -- exactly one of the three built-ins of indices
-abbrev pub has_one_of_indices : List Part → Bool
+abbrev pub has_one_of_indices : List VaryingPart → Bool
 has_one_of_indices parts =
     is_one_of_three (has_built_in PointIndex parts) (has_built_in LineIndices parts) (has_built_in TriangleIndices parts)
 
@@ -112,7 +112,7 @@ module _ (settings : Settings) (ep : EntryPoint) where
   result_items (Some declared) = result_item declared ∷ []
 
 -- the parts of a result
-abbrev pub result_parts : List IrType → List TypeInfo → Option FunctionResult → List Part
+abbrev pub result_parts : List IrType → List TypeInfo → Option FunctionResult → List VaryingPart
 result_parts types infos None = []
 result_parts types infos (Some declared) = parts_of types infos declared.ty declared.binding
 

@@ -5,10 +5,9 @@ ghost use Rattle.ir_arena.specs.Points.{within};
 ghost use Rattle.ir_facts.specs.Answers.{Answers, Finds, FirstOf, read_by};
 ghost use Rattle.check_entry.specs.EntryFaults.{fault_of};
 ghost use Rattle.check_entry.specs.EntryAnswers.{EntryPoints};
-ghost use Rattle.check_faults.specs.RefusedEntries.{IsRefusalFor};
 
 use check_faults::entry::EntryPointError;
-use check_faults::refused::RefusedEntry;
+use ir_arena::Refused;
 use ir_arena::span::{Refusal, WithSpan};
 use std::alloc::Global;
 
@@ -21,26 +20,17 @@ pub fn refusal_at_start(alloc: Global, fault: EntryPointError) -> Refusal<EntryP
     Refusal::Fault(WithSpan::new(alloc, fault))
 }
 
-/// The refusal for a fault of a step after the function, which stands at no place of its own.
-#[cold]
-#[inline(never)]
-pub(crate) fn refusal(alloc: Global, fault: EntryPointError) -> RefusedEntry
-    ensures { IsRefusalFor fault result }
-{
-    RefusedEntry::new(alloc, WithSpan::new(alloc, fault))
-}
-
 /// The answer of a check of an entry point: in the errors of the code, and in the faults that contracts see.
 pub(crate) fn answer(
     alloc: Global,
     checked: Result<(), EntryPointError>,
-) -> Result<(), RefusedEntry>
+) -> Result<(), Refused<EntryPointError>>
     ensures meets { (points : EntryPoints) → Finds (FirstOf points) checked → Answers (FirstOf points) result }
     ensures judges { (points : EntryPoints) → Finds (FirstOf points) checked → Answers
         (FirstOf (within fault_of points)) (read_by fault_of result) }
 {
     match checked {
         Ok(()) => Ok(()),
-        Err(fault) => Err(refusal(alloc, fault)),
+        Err(fault) => Err(Refused::unplaced(alloc, fault)),
     }
 }

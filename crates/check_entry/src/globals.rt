@@ -5,6 +5,7 @@ ghost use Rattle.ir_arena.specs.Points.{first_fault};
 ghost use Rattle.std.specs.Option.{option_copied};
 ghost use Rattle.ir_types.specs.Types.{inner_at};
 ghost use Rattle.check_entry.specs.UsedGlobals.{is_used_immediate, used_immediates, immediate_points, image_access, access_in, ray_points, is_within, allowed_points, used_payload_points};
+ghost use Rattle.check_entry.specs.EntryUses.{is_immediate};
 ghost use Rattle.check_variables.specs.Spaces.{is_task_payload};
 ghost use Rattle.ir_facts.specs.Answers.{Finds, FirstOf};
 
@@ -55,8 +56,26 @@ pub(crate) fn is_used_immediate(module: &Module, info: &FunctionInfo, index: usi
     ensures { result ≡ is_used_immediate info.now.global_uses «module».now.global_variables index }
 {
     match module.global_variables.as_slice().get(index) {
-        Some(global) => matches!(global.space, AddressSpace::Immediate) && is_used(info, index),
+        Some(global) => is_immediate(global.space) && is_used(info, index),
         None => false,
+    }
+}
+
+/// Whether a space is that of immediates.
+fn is_immediate(space: AddressSpace) -> bool
+    ensures { result ≡ is_immediate space }
+{
+    match space {
+        AddressSpace::Immediate => true,
+        AddressSpace::Function
+        | AddressSpace::Private
+        | AddressSpace::WorkGroup
+        | AddressSpace::Uniform
+        | AddressSpace::Storage { .. }
+        | AddressSpace::Handle
+        | AddressSpace::TaskPayload
+        | AddressSpace::RayPayload
+        | AddressSpace::IncomingRayPayload => false,
     }
 }
 
@@ -64,7 +83,18 @@ pub(crate) fn is_used_immediate(module: &Module, info: &FunctionInfo, index: usi
 pub(crate) fn is_task_payload(space: AddressSpace) -> bool
     ensures { result ≡ is_task_payload space }
 {
-    matches!(space, AddressSpace::TaskPayload)
+    match space {
+        AddressSpace::TaskPayload => true,
+        AddressSpace::Function
+        | AddressSpace::Private
+        | AddressSpace::WorkGroup
+        | AddressSpace::Uniform
+        | AddressSpace::Storage { .. }
+        | AddressSpace::Handle
+        | AddressSpace::Immediate
+        | AddressSpace::RayPayload
+        | AddressSpace::IncomingRayPayload => false,
+    }
 }
 
 /// Whether every use of a global is allowed, and the global holds no payload.

@@ -12,7 +12,8 @@ mod mesh;
 mod varyings;
 
 use crate::uses::check_stage;
-use check_faults::refused::RefusedEntry;
+use check_faults::entry::EntryPointError;
+use ir_arena::Refused;
 use ir_facts::below::Below;
 use ir_facts::valid::info::FunctionInfo;
 use ir_facts::valid::settings::Settings;
@@ -36,7 +37,7 @@ pub struct InterfaceContext<'a, B> {
 impl<'a, B: Below> InterfaceContext<'a, B> {
     /// What an entry point that uses globals so puts in and out: its stage, its arguments, its result, the globals and the
     /// mesh.
-    pub fn check(&self) -> Result<(), RefusedEntry>
+    pub fn check(&self) -> Result<(), Refused<EntryPointError>>
         requires infos { AreInfosOf self.now.program.now self.now.infos.now }
         requires types { FitsTypes self.now.program.now }
         requires signature { SignatureFits self.now.program.now self.now.entry_point.now.function }

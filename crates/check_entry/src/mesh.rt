@@ -28,8 +28,26 @@ fn is_in_work_group(module: &Module, global: Handle<tag::GlobalVariable>) -> boo
     ensures { result ≡ lies_in is_work_group «module».now.global_variables global }
 {
     match module.global_variables.as_slice().get(global.index()) {
-        Some(global) => matches!(global.space, AddressSpace::WorkGroup),
+        Some(global) => is_work_group(global.space),
         None => false,
+    }
+}
+
+/// Whether a space is that of work groups.
+fn is_work_group(space: AddressSpace) -> bool
+    ensures { result ≡ is_work_group space }
+{
+    match space {
+        AddressSpace::WorkGroup => true,
+        AddressSpace::Function
+        | AddressSpace::Private
+        | AddressSpace::Uniform
+        | AddressSpace::Storage { .. }
+        | AddressSpace::Handle
+        | AddressSpace::Immediate
+        | AddressSpace::TaskPayload
+        | AddressSpace::RayPayload
+        | AddressSpace::IncomingRayPayload => false,
     }
 }
 

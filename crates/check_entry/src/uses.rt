@@ -8,21 +8,24 @@ ghost use Rattle.check_variables.specs.Spaces.{is_task_payload};
 ghost use Rattle.check_entry.specs.EntryUses.{lies_in, place_points, made_points, taken_points, payload_points, with_use_of, output_variable_of, with_own_uses, only, stage_points};
 ghost use Rattle.ir_facts.specs.Answers.{Answers, Finds, FirstOf, read_by};
 
-use crate::answers::{answer, refusal};
+use crate::answers::answer;
+use crate::globals::is_task_payload;
 use bitflags::Flags;
 use check_faults::entry::EntryPointError;
-use check_faults::refused::RefusedEntry;
 use ir_arena::handle::Handle;
-use ir_arena::tag;
+use ir_arena::{Refused, tag};
 use ir_facts::valid::info::FunctionInfo;
 use ir_flags::valid::{GlobalUse, ShaderStages};
 use ir_leaves::stage::ShaderStage;
 use ir_module::module::{EntryPoint, MeshStageInfo, Module};
-use ir_types::types::AddressSpace;
 use std::alloc::Global;
 
 /// The task payload: the task stage has one, the mesh stage may have one, others have none; and it lies in its space.
-pub fn check_payload(alloc: Global, module: &Module, ep: &EntryPoint) -> Result<(), RefusedEntry>
+pub fn check_payload(
+    alloc: Global,
+    module: &Module,
+    ep: &EntryPoint,
+) -> Result<(), Refused<EntryPointError>>
     ensures { Answers (FirstOf (within fault_of (payload_points «module».now.global_variables ep.now.stage
         ep.now.task_payload))) (read_by fault_of result) }
 {
@@ -51,7 +54,11 @@ fn payload_holds(ep: &EntryPoint) -> bool
 
 #[cold]
 #[inline(never)]
-fn refuse_payload(alloc: Global, module: &Module, ep: &EntryPoint) -> Result<(), RefusedEntry>
+fn refuse_payload(
+    alloc: Global,
+    module: &Module,
+    ep: &EntryPoint,
+) -> Result<(), Refused<EntryPointError>>
     ensures { Answers (FirstOf (within fault_of (payload_points «module».now.global_variables ep.now.stage
         ep.now.task_payload))) (read_by fault_of result) }
 {
@@ -116,7 +123,7 @@ fn is_payload(module: &Module, global: Handle<tag::GlobalVariable>) -> bool
     ensures { result ≡ lies_in is_task_payload «module».now.global_variables global }
 {
     match module.global_variables.as_slice().get(global.index()) {
-        Some(global) => matches!(global.space, AddressSpace::TaskPayload),
+        Some(global) => is_task_payload(global.space),
         None => false,
     }
 }
@@ -190,11 +197,11 @@ pub(crate) fn check_stage(
     alloc: Global,
     stage: ShaderStage,
     available: ShaderStages,
-) -> Result<(), RefusedEntry>
+) -> Result<(), Refused<EntryPointError>>
     ensures { Answers (FirstOf (within fault_of (stage_points stage available))) (read_by fault_of result) }
 {
     if !available.contains(only(stage)) {
-        return Err(refusal(alloc, EntryPointError::ForbiddenStageOperations));
+        return Err(Refused::unplaced(alloc, EntryPointError::ForbiddenStageOperations));
     }
     Ok(())
 }

@@ -15,14 +15,13 @@ ghost use Rattle.check_entry.specs.EntryFaults.{OfArgument, OfResult, fault_of};
 ghost use Rattle.check_entry.specs.EntryVaryings.{is_struct, is_three_counts, returns_counts, is_one_of_three, returned_points, are_blend_sources, with_blending};
 ghost use Rattle.ir_facts.specs.Answers.{Answers, Finds, FirstOf, IsFirstFault, read_by, refusal_read_by};
 
-use crate::answers::{answer, refusal};
+use crate::answers::answer;
 use crate::globals::inner_at;
 use check_faults::entry::EntryPointError;
-use check_faults::refused::RefusedEntry;
 use check_varyings::varying::VaryingState;
 use ir_arena::handle::Handle;
 use ir_arena::span::Refusal;
-use ir_arena::tag;
+use ir_arena::{Refused, tag};
 use ir_errors::interface::VaryingError;
 use ir_facts::valid::info::FunctionInfo;
 use ir_flags::valid::TypeFlags;
@@ -63,7 +62,7 @@ pub(crate) fn check_returned(
     stage: ShaderStage,
     position: bool,
     declared: Option<FunctionResult>,
-) -> Result<(), RefusedEntry>
+) -> Result<(), Refused<EntryPointError>>
     ensures { Answers (FirstOf (within fault_of (returned_points «module».now.types stage position declared)))
         (read_by fault_of result) }
 {
@@ -81,7 +80,7 @@ fn refuse_returned(
     stage: ShaderStage,
     position: bool,
     declared: Option<FunctionResult>,
-) -> Result<(), RefusedEntry>
+) -> Result<(), Refused<EntryPointError>>
     ensures { Answers (FirstOf (within fault_of (returned_points «module».now.types stage position declared)))
         (read_by fault_of result) }
 {
@@ -154,29 +153,32 @@ pub(crate) fn argument_refused(
     alloc: Global,
     index: u32,
     refused: Refusal<VaryingError>,
-) -> RefusedEntry
+) -> Refused<EntryPointError>
     ensures { (points : List (Point Given)) → IsFirstFault points (refusal_read_by varying_fault_of refused) →
         IsFirstFault (within (OfArgument index) points) (refusal_read_by fault_of result) }
 {
     match refused {
-        Refusal::Fault(fault) => refusal(
+        Refusal::Fault(fault) => Refused::unplaced(
             alloc,
             EntryPointError::Argument(index, fault.into_inner()),
         ),
-        Refusal::Memory => RefusedEntry::from(AllocError),
+        Refusal::Memory => Refused::from(AllocError),
     }
 }
 
 /// The refusal of the result, or of an output of a mesh.
 #[cold]
 #[inline(never)]
-pub(crate) fn result_refused(alloc: Global, refused: Refusal<VaryingError>) -> RefusedEntry
+pub(crate) fn result_refused(
+    alloc: Global,
+    refused: Refusal<VaryingError>,
+) -> Refused<EntryPointError>
     ensures { (points : List (Point Given)) → IsFirstFault points (refusal_read_by varying_fault_of refused) →
         IsFirstFault (within OfResult points) (refusal_read_by fault_of result) }
 {
     match refused {
-        Refusal::Fault(fault) => RefusedEntry::new(alloc, fault.into_other()),
-        Refusal::Memory => RefusedEntry::from(AllocError),
+        Refusal::Fault(fault) => Refused::new(alloc, fault.into_other()),
+        Refusal::Memory => Refused::from(AllocError),
     }
 }
 

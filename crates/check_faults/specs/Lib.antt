@@ -1,2 +1,1 @@
 pub mod EntryErrorNames
-pub mod RefusedEntries

@@ -4,7 +4,6 @@
 
 pub mod entry;
 pub mod module;
-pub mod refused;
 pub mod report;
 pub mod sentences;
 

@@ -27,7 +27,7 @@ use Rattle.check_scope.specs.walk.Findings.{AllHold, RefusesFaultsAlone}
 use Rattle.check_scope.specs.Results.{is_fresh}
 use Rattle.check_scope.specs.ExpressionTypes.{expression_at}
 use Rattle.check_flow.proofs.Lists.{within-append}
-use Rattle.check_scope.proofs.Refusals.{refuses_first, refuses_second}
+use Rattle.ir_facts.proofs.Refusals.{refuses_first, refuses_second}
 
 -- a point whose fault stands inside another fails where it does
 within_none : {Inner Outer : Type 0} (o : Option Inner) (f : Inner → Outer) → option_map f o ≡ None → o ≡ None

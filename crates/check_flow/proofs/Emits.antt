@@ -28,7 +28,7 @@ use Rattle.check_scope.specs.walk.Table.{with_all, with_puts}
 use Rattle.check_flow.specs.walk.Emitted.{handles_from, handles_between}
 use Rattle.check_flow.proofs.Calls.{call_puts}
 use Rattle.check_flow.proofs.Lists.{in_scope_before}
-use Rattle.check_scope.proofs.Refusals.{first_refused}
+use Rattle.ir_facts.proofs.Refusals.{first_refused}
 
 or_true : (b : Bool) → (b || true) ≡ true
 or_true true = refl

@@ -13,7 +13,7 @@ use Rattle.naga_runs.specs.Visits.{Place}
 use Rattle.check_scope.specs.BodyTrees.{case_list}
 use Rattle.check_scope.specs.Context.{Context}
 use Rattle.check_scope.specs.ScopePoints.{Points, use_point}
-use Rattle.check_scope.specs.ExpressionTypes.{is_integer, scalar_kind_at}
+use Rattle.check_scope.specs.ExpressionTypes.{is_integer_kind, scalar_kind_at}
 use Rattle.ir_errors.specs.declared.function.FunctionError.TheVariants.{InvalidSwitchType, MissingDefaultCase, LastCaseFallTrough}
 use Rattle.check_scope.specs.walk.Table.{with_all}
 use Rattle.check_flow.specs.walk.Emitted.{handles_from, handles_between}
@@ -80,7 +80,7 @@ module _ (f g : ℕ → List ℕ) where
   same_switch context place h cs =
       let points : List SwitchValue → Bool → Points = λ values last.
       use_point place h
-      ∷ (is_integer (scalar_kind_at context h), InvalidSwitchType h)
+      ∷ (is_integer_kind (scalar_kind_at context h), InvalidSwitchType h)
       ∷ value_points (scalar_kind_at context h) [] values
       ++ (list_any is_default values, MissingDefaultCase)
       ∷ (not last, LastCaseFallTrough)

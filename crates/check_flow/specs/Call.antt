@@ -59,8 +59,41 @@ all_passed_points context place declared given =
     ∷ passed_points_from context place 0 declared given
 
 abbrev pub is_call_result_of : ℕ → Option Expression → Bool
+is_call_result_of f None = false
 is_call_result_of f (Some (e.CallResult g)) = g == f
-is_call_result_of f _ = false
+is_call_result_of f (Some (e.Literal l)) = false
+is_call_result_of f (Some (e.Constant h)) = false
+is_call_result_of f (Some (e.Override h)) = false
+is_call_result_of f (Some (e.ZeroValue ty)) = false
+is_call_result_of f (Some (e.Compose ty components)) = false
+is_call_result_of f (Some (e.Access base index)) = false
+is_call_result_of f (Some (e.AccessIndex base index)) = false
+is_call_result_of f (Some (e.FunctionArgument i)) = false
+is_call_result_of f (Some (e.GlobalVariable h)) = false
+is_call_result_of f (Some (e.LocalVariable h)) = false
+is_call_result_of f (Some (e.Load pointer)) = false
+is_call_result_of f (Some (e.AtomicResult ty comparison)) = false
+is_call_result_of f (Some (e.WorkGroupUniformLoadResult ty)) = false
+is_call_result_of f (Some e.RayQueryProceedResult) = false
+is_call_result_of f (Some e.SubgroupBallotResult) = false
+is_call_result_of f (Some (e.SubgroupOperationResult ty)) = false
+is_call_result_of f (Some (e.Splat detail operands)) = false
+is_call_result_of f (Some (e.Swizzle detail operands)) = false
+is_call_result_of f (Some (e.ImageSample detail operands)) = false
+is_call_result_of f (Some (e.ImageLoad detail operands)) = false
+is_call_result_of f (Some (e.ImageQuery detail operands)) = false
+is_call_result_of f (Some (e.Unary detail operands)) = false
+is_call_result_of f (Some (e.Binary detail operands)) = false
+is_call_result_of f (Some (e.Select detail operands)) = false
+is_call_result_of f (Some (e.Derivative detail operands)) = false
+is_call_result_of f (Some (e.Relational detail operands)) = false
+is_call_result_of f (Some (e.Math detail operands)) = false
+is_call_result_of f (Some (e.As detail operands)) = false
+is_call_result_of f (Some (e.ArrayLength detail operands)) = false
+is_call_result_of f (Some (e.RayQueryGetIntersection detail operands)) = false
+is_call_result_of f (Some (e.RayQueryVertexPositions detail operands)) = false
+is_call_result_of f (Some (e.CooperativeLoad detail operands)) = false
+is_call_result_of f (Some (e.CooperativeMultiplyAdd detail operands)) = false
 
 -- a result: not in scope yet, of this function, which returns one, and fresh. Without one the function returns none
 abbrev pub call_result_points : Context → Handles → Place → ℕ → Bool → Option ℕ → CallPoints

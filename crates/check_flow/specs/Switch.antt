@@ -12,7 +12,7 @@ use Rattle.ir_errors.specs.declared.function.FunctionError.TheVariants.{InvalidS
 use Rattle.naga_runs.specs.Visits.{Place}
 use Rattle.check_scope.specs.Context.{Context}
 use Rattle.check_scope.specs.ScopePoints.{Points, use_point}
-use Rattle.check_scope.specs.ExpressionTypes.{is_integer, scalar_kind_at}
+use Rattle.check_scope.specs.ExpressionTypes.{is_integer_kind, scalar_kind_at}
 
 -- a case value of the selector's signedness
 abbrev pub has_signedness_of : Option ScalarKind → SwitchValue → Bool
@@ -59,7 +59,7 @@ last_falls_through (OneCase v falls_through body (OneCase w next_falls next rest
 abbrev pub switch_points : Context → Place → ℕ → Cases → Points
 switch_points context place h cases =
     use_point place h
-    ∷ (is_integer (scalar_kind_at context h), InvalidSwitchType h)
+    ∷ (is_integer_kind (scalar_kind_at context h), InvalidSwitchType h)
     ∷ value_points (scalar_kind_at context h) [] (values_of cases)
     ++ (list_any is_default (values_of cases), MissingDefaultCase)
     ∷ (not (last_falls_through cases), LastCaseFallTrough)

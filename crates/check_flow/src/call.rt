@@ -9,7 +9,8 @@ ghost use Rattle.ir_errors.specs.declared.expression.ExpressionError.TheVariants
 ghost use Rattle.ir_errors.specs.declared.function.CallError.TheVariants.{Argument, ArgumentCount, ArgumentType, ExpressionMismatch, ResultAlreadyInScope, ResultAlreadyPopulated};
 ghost use Rattle.ir_errors.specs.declared.function.FunctionError.TheVariants.{InvalidCall};
 ghost use Rattle.naga_runs.specs.PutsAndUses.{puts_of};
-ghost use Rattle.check_scope.specs.walk.Findings.{AllHold, IsRefusalFor, RefusesFaultsAlone};
+ghost use Rattle.ir_arena.specs.Refusals.{IsRefusalFor};
+ghost use Rattle.check_scope.specs.walk.Findings.{AllHold, RefusesFaultsAlone};
 ghost use Rattle.ir_facts.specs.Answers.{Answers, Finds, FirstOf, IsFirstFault};
 ghost use Rattle.check_flow.specs.Call.{is_passed_as, passed_points, all_passed_points, is_call_result_of, call_result_points, call_points};
 ghost use Rattle.check_scope.specs.Context.{ContextFits};
@@ -18,12 +19,11 @@ ghost use Rattle.check_scope.specs.walk.SeenContext.{context_of};
 ghost use Rattle.check_scope.specs.walk.Table.{HasPut, count, filled_in, known};
 
 use check_scope::context::BlockContext;
-use check_scope::refused::Refused;
 use check_scope::results::is_fresh;
 use check_scope::table::{FilledColumn, ScopeColumn};
 use ir_arena::handle::Handle;
 use ir_arena::span::Span;
-use ir_arena::tag;
+use ir_arena::{Refused, tag};
 use ir_errors::expression::ExpressionError;
 use ir_errors::function::{CallError, FunctionError};
 use ir_module::expressions::Expression;
@@ -47,7 +47,7 @@ pub fn validate_call(
     context: &BlockContext,
     site: &CallSite,
     arguments: &[Handle<tag::Expression>],
-) -> Result<(), Refused>
+) -> Result<(), Refused<FunctionError>>
     requires context { ContextFits (context_of context.now) }
     requires callee { CalleeFits (context_of context.now).program site.now.function }
     requires result { IfSome site.now.named (λ r. r < count scope.old) }
@@ -73,7 +73,7 @@ fn check_call(
     context: &BlockContext,
     site: &CallSite,
     arguments: &[Handle<tag::Expression>],
-) -> Result<(), Refused>
+) -> Result<(), Refused<FunctionError>>
     requires context { ContextFits (context_of context.now) }
     requires callee { CalleeFits (context_of context.now).program site.now.function }
     ensures fault { Answers (FirstOf (call_points (context_of context.now) (filled_in filled.now)
@@ -178,7 +178,7 @@ fn refused_site(
     named: Option<Handle<tag::Expression>>,
     span: &Span,
     arguments: &[Handle<tag::Expression>],
-) -> Refused
+) -> Refused<FunctionError>
     requires context { ContextFits (context_of context.now) }
     requires callee { CalleeFits (context_of context.now).program function }
     requires fails { AllHold (call_points (context_of context.now) (filled_in filled.now) (place_at (known scope.now))
@@ -204,7 +204,7 @@ fn first_fault_of_call(
     context: &BlockContext,
     site: &CallSite,
     arguments: &[Handle<tag::Expression>],
-) -> Result<(), Refused>
+) -> Result<(), Refused<FunctionError>>
     requires context { ContextFits (context_of context.now) }
     requires callee { CalleeFits (context_of context.now).program site.now.function }
     ensures fault { Answers (FirstOf (call_points (context_of context.now) (filled_in filled.now)
@@ -227,7 +227,7 @@ fn check_arguments(
     site: &CallSite,
     declared: &[FunctionArgument],
     given: &[Handle<tag::Expression>],
-) -> Result<(), Refused>
+) -> Result<(), Refused<FunctionError>>
     requires context { ContextFits (context_of context.now) }
     requires types { All (λ argument. argument.ty < length (context_of context.now).program.types) declared.now }
     ensures fault { Answers
@@ -290,7 +290,7 @@ fn check_call_result(
     context: &BlockContext,
     site: &CallSite,
     returns: bool,
-) -> Result<(), Refused>
+) -> Result<(), Refused<FunctionError>>
     ensures fault { Answers (FirstOf (within (InvalidCall site.now.function) (call_result_points
         (context_of context.now) (filled_in filled.now) (place_at (known scope.now)) site.now.function returns
         site.now.named))) result }
@@ -349,13 +349,48 @@ fn is_call_result_of(function: Handle<tag::Function>, expression: Option<&Expres
     ensures { result ≡ is_call_result_of function (option_copied expression.entry) }
 {
     match expression {
+        None => false,
         Some(Expression::CallResult(called)) => *called == function,
-        _ => false,
+        Some(
+            Expression::Literal(_)
+            | Expression::Constant(_)
+            | Expression::Override(_)
+            | Expression::ZeroValue(_)
+            | Expression::Compose { .. }
+            | Expression::Access { .. }
+            | Expression::AccessIndex { .. }
+            | Expression::FunctionArgument(_)
+            | Expression::GlobalVariable(_)
+            | Expression::LocalVariable(_)
+            | Expression::Load { .. }
+            | Expression::AtomicResult { .. }
+            | Expression::WorkGroupUniformLoadResult { .. }
+            | Expression::RayQueryProceedResult
+            | Expression::SubgroupBallotResult
+            | Expression::SubgroupOperationResult { .. }
+            | Expression::Splat { .. }
+            | Expression::Swizzle { .. }
+            | Expression::ImageSample { .. }
+            | Expression::ImageLoad { .. }
+            | Expression::ImageQuery { .. }
+            | Expression::Unary { .. }
+            | Expression::Binary { .. }
+            | Expression::Select { .. }
+            | Expression::Derivative { .. }
+            | Expression::Relational { .. }
+            | Expression::Math { .. }
+            | Expression::As { .. }
+            | Expression::ArrayLength { .. }
+            | Expression::RayQueryGetIntersection { .. }
+            | Expression::RayQueryVertexPositions { .. }
+            | Expression::CooperativeLoad { .. }
+            | Expression::CooperativeMultiplyAdd { .. },
+        ) => false,
     }
 }
 
 /// The refusal of a call by this fault.
-fn refused_call(alloc: Global, site: &CallSite, error: CallError) -> Refused
+fn refused_call(alloc: Global, site: &CallSite, error: CallError) -> Refused<FunctionError>
     ensures { IsRefusalFor (InvalidCall site.now.function error) result }
 {
     let function = site.function;
@@ -367,7 +402,7 @@ fn refused_call(alloc: Global, site: &CallSite, error: CallError) -> Refused
 }
 
 /// The refusal of a result that is none of this function, or of none where the function returns one.
-fn expression_mismatch(alloc: Global, site: &CallSite) -> Refused
+fn expression_mismatch(alloc: Global, site: &CallSite) -> Refused<FunctionError>
     ensures { IsRefusalFor (InvalidCall site.now.function (ExpressionMismatch site.now.named)) result }
 {
     refused_call(alloc, site, CallError::ExpressionMismatch(site.named))

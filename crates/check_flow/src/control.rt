@@ -7,7 +7,8 @@ ghost use Rattle.check_scope.specs.Results.{is_result};
 ghost use Rattle.check_scope.specs.walk.Place.{no_sets, place_at};
 ghost use Rattle.check_flow.specs.walk.Emitted.{handles_between, place};
 ghost use Rattle.ir_errors.specs.declared.function.FunctionError.TheVariants.{BreakOutsideOfLoopOrSwitch, ContinueOutsideOfLoop, InvalidReturnType};
-ghost use Rattle.check_scope.specs.walk.Findings.{AllHold, IsRefusalFor, RefusesFaultsAlone};
+ghost use Rattle.ir_arena.specs.Refusals.{IsRefusalFor};
+ghost use Rattle.check_scope.specs.walk.Findings.{AllHold, RefusesFaultsAlone};
 ghost use Rattle.ir_facts.specs.Answers.{Answers, Finds, FirstOf, IsFirstFault};
 ghost use Rattle.check_scope.specs.Context.{ContextFits};
 ghost use Rattle.check_scope.specs.walk.SeenContext.{context_of};
@@ -18,13 +19,12 @@ ghost use Rattle.check_scope.specs.walk.Table.{HasPut, KnowsOperands, count, kno
 
 use check_scope::context::BlockContext;
 use check_scope::refuse::{answer, check_put, check_use, not_in_scope};
-use check_scope::refused::Refused;
 use check_scope::table::{OperandColumn, ScopeColumn};
 use check_scope::types::is_of_type;
 use ir_arena::handle::Handle;
 use ir_arena::range::Range;
 use ir_arena::span::Span;
-use ir_arena::tag;
+use ir_arena::{Refused, tag};
 use ir_errors::function::FunctionError;
 use ir_leaves::scalars::{Scalar, ScalarKind};
 use ir_module::expressions::Expression;
@@ -44,7 +44,7 @@ pub fn validate_emit(
     context: &BlockContext,
     range: Range,
     span: &Span,
-) -> Result<(), Refused>
+) -> Result<(), Refused<FunctionError>>
     requires there { range.end ≤ count scope.old }
     requires count { count scope.old ≡ length (context_of context.now).fun.expressions }
     requires operands { KnowsOperands (emitted_operands (context_of context.now).fun) operands.old scope.old }
@@ -71,7 +71,7 @@ fn check_emitted(
     context: &BlockContext,
     handle: Handle<tag::Expression>,
     span: &Span,
-) -> Result<(), Refused>
+) -> Result<(), Refused<FunctionError>>
     requires there { handle < length (context_of context.now).fun.expressions }
     requires operands { KnowsOperands (emitted_operands (context_of context.now).fun) operands.old scope.now }
     ensures fault { Answers (FirstOf (emitted_points (context_of context.now) (place_at (known scope.now))
@@ -190,7 +190,7 @@ fn refused_emission(
     context: &BlockContext,
     handle: Handle<tag::Expression>,
     span: &Span,
-) -> Refused
+) -> Refused<FunctionError>
     requires fails { AllHold (emitted_points (context_of context.now) (place_at (known scope.now))
         (place_at (known scope.now)) handle) → ⊥ }
     ensures { IsFirstFault (emitted_points (context_of context.now) (place_at (known scope.now))
@@ -208,7 +208,7 @@ fn first_fault_of_emitted(
     context: &BlockContext,
     handle: Handle<tag::Expression>,
     span: &Span,
-) -> Result<(), Refused>
+) -> Result<(), Refused<FunctionError>>
     ensures fault { Answers (FirstOf (emitted_points (context_of context.now) (place_at (known scope.now))
         (place_at (known scope.now)) handle)) result }
     ensures refused { RefusesFaultsAlone
@@ -270,17 +270,47 @@ fn check_listed(
 fn is_result(expression: Option<&Expression>) -> bool
     ensures { result ≡ is_result (option_copied expression.entry) }
 {
-    matches!(
-        expression,
+    match expression {
+        None => false,
         Some(
             Expression::CallResult(_)
-                | Expression::AtomicResult { .. }
-                | Expression::WorkGroupUniformLoadResult { .. }
-                | Expression::RayQueryProceedResult
-                | Expression::SubgroupBallotResult
-                | Expression::SubgroupOperationResult { .. }
-        )
-    )
+            | Expression::AtomicResult { .. }
+            | Expression::WorkGroupUniformLoadResult { .. }
+            | Expression::RayQueryProceedResult
+            | Expression::SubgroupBallotResult
+            | Expression::SubgroupOperationResult { .. },
+        ) => true,
+        Some(
+            Expression::Literal(_)
+            | Expression::Constant(_)
+            | Expression::Override(_)
+            | Expression::ZeroValue(_)
+            | Expression::Compose { .. }
+            | Expression::Access { .. }
+            | Expression::AccessIndex { .. }
+            | Expression::FunctionArgument(_)
+            | Expression::GlobalVariable(_)
+            | Expression::LocalVariable(_)
+            | Expression::Load { .. }
+            | Expression::Splat { .. }
+            | Expression::Swizzle { .. }
+            | Expression::ImageSample { .. }
+            | Expression::ImageLoad { .. }
+            | Expression::ImageQuery { .. }
+            | Expression::Unary { .. }
+            | Expression::Binary { .. }
+            | Expression::Select { .. }
+            | Expression::Derivative { .. }
+            | Expression::Relational { .. }
+            | Expression::Math { .. }
+            | Expression::As { .. }
+            | Expression::ArrayLength { .. }
+            | Expression::RayQueryGetIntersection { .. }
+            | Expression::RayQueryVertexPositions { .. }
+            | Expression::CooperativeLoad { .. }
+            | Expression::CooperativeMultiplyAdd { .. },
+        ) => false,
+    }
 }
 
 /// If, and the break condition of a Loop: a boolean that every run has put.
@@ -289,7 +319,7 @@ pub fn check_condition(
     context: &BlockContext,
     condition: Handle<tag::Expression>,
     span: &Span,
-) -> Result<(), Refused>
+) -> Result<(), Refused<FunctionError>>
     ensures fault { Answers (FirstOf (condition_points (context_of context.now) (place_at (known scope.now))
         condition)) result }
     ensures refused { RefusesFaultsAlone
@@ -320,7 +350,7 @@ fn refused_condition(
     context: &BlockContext,
     condition: Handle<tag::Expression>,
     span: &Span,
-) -> Refused
+) -> Refused<FunctionError>
     requires fails { AllHold (condition_points (context_of context.now) (place_at (known scope.now)) condition) → ⊥ }
     ensures { IsFirstFault (condition_points (context_of context.now) (place_at (known scope.now)) condition) result }
 {
@@ -336,7 +366,7 @@ fn first_fault_of_condition(
     context: &BlockContext,
     condition: Handle<tag::Expression>,
     span: &Span,
-) -> Result<(), Refused>
+) -> Result<(), Refused<FunctionError>>
     ensures fault { Answers (FirstOf (condition_points (context_of context.now) (place_at (known scope.now))
         condition)) result }
     ensures refused { RefusesFaultsAlone
@@ -371,7 +401,7 @@ pub fn check_return(
     abilities: Abilities,
     value: &Option<Handle<tag::Expression>>,
     span: Span,
-) -> Result<(), Refused>
+) -> Result<(), Refused<FunctionError>>
     requires { ContextFits (context_of context.now) }
     ensures fault { Answers (FirstOf (return_points (context_of context.now) (place abilities (known scope.now))
         value.now)) result }
@@ -429,7 +459,11 @@ fn is_returned_as(
 }
 
 /// Break: allowed here.
-pub fn check_break(alloc: Global, abilities: Abilities, span: Span) -> Result<(), Refused>
+pub fn check_break(
+    alloc: Global,
+    abilities: Abilities,
+    span: Span,
+) -> Result<(), Refused<FunctionError>>
     ensures fault { Answers (FirstOf (break_points (place abilities no_sets))) result }
     ensures refused { RefusesFaultsAlone (break_points (place abilities no_sets)) result }
 {
@@ -440,7 +474,11 @@ pub fn check_break(alloc: Global, abilities: Abilities, span: Span) -> Result<()
 }
 
 /// Continue: allowed here.
-pub fn check_continue(alloc: Global, abilities: Abilities, span: Span) -> Result<(), Refused>
+pub fn check_continue(
+    alloc: Global,
+    abilities: Abilities,
+    span: Span,
+) -> Result<(), Refused<FunctionError>>
     ensures fault { Answers (FirstOf (continue_points (place abilities no_sets))) result }
     ensures refused { RefusesFaultsAlone (continue_points (place abilities no_sets)) result }
 {
@@ -453,7 +491,7 @@ pub fn check_continue(alloc: Global, abilities: Abilities, span: Span) -> Result
 /// The refusal of a Break that is in no body of a Loop and in no case.
 #[cold]
 #[inline(never)]
-fn break_outside_of_loop_or_switch(alloc: Global, span: Span) -> Refused
+fn break_outside_of_loop_or_switch(alloc: Global, span: Span) -> Refused<FunctionError>
     ensures { IsRefusalFor BreakOutsideOfLoopOrSwitch result }
 {
     Refused::placed(alloc, FunctionError::BreakOutsideOfLoopOrSwitch, span)
@@ -462,7 +500,7 @@ fn break_outside_of_loop_or_switch(alloc: Global, span: Span) -> Refused
 /// The refusal of a Continue that is in no body of a Loop.
 #[cold]
 #[inline(never)]
-fn continue_outside_of_loop(alloc: Global, span: Span) -> Refused
+fn continue_outside_of_loop(alloc: Global, span: Span) -> Refused<FunctionError>
     ensures { IsRefusalFor ContinueOutsideOfLoop result }
 {
     Refused::placed(alloc, FunctionError::ContinueOutsideOfLoop, span)
@@ -475,7 +513,7 @@ fn invalid_return_type(
     context: &BlockContext,
     value: &Option<Handle<tag::Expression>>,
     span: Span,
-) -> Refused
+) -> Refused<FunctionError>
     ensures { IsRefusalFor (InvalidReturnType value.now (declared_type (context_of context.now))) result }
 {
     let fault = FunctionError::InvalidReturnType {

@@ -15,12 +15,11 @@ ghost use Rattle.check_scope.specs.walk.Table.{known};
 use crate::digits::sort_numbers;
 use check_scope::context::BlockContext;
 use check_scope::refuse::{answer, check_use};
-use check_scope::refused::Refused;
 use check_scope::table::ScopeColumn;
-use check_scope::types::is_integer;
+use check_scope::types::is_integer_kind;
 use ir_arena::handle::Handle;
 use ir_arena::span::Span;
-use ir_arena::tag;
+use ir_arena::{Refused, tag};
 use ir_errors::function::FunctionError;
 use ir_leaves::scalars::ScalarKind;
 use ir_statements::operations::SwitchValue;
@@ -36,7 +35,7 @@ pub fn check_switch(
     selector: Handle<tag::Expression>,
     cases: &[SwitchCase],
     span: Span,
-) -> Result<(), Refused>
+) -> Result<(), Refused<FunctionError>>
     ensures { Answers (FirstOf (switch_points (context_of context.now) (place_at (known scope.now)) selector
         (case_list cases.now))) result }
 {
@@ -54,7 +53,7 @@ fn check_selector(
     ensures { Finds (FirstOf (selector_points (context_of context.now) (place_at (known scope.now)) selector)) result }
 {
     check_use(scope, selector)?;
-    if !is_integer(context.scalar_kind(selector)) {
+    if !is_integer_kind(context.scalar_kind(selector)) {
         return Err(FunctionError::InvalidSwitchType(selector));
     }
     Ok(())
@@ -66,7 +65,7 @@ fn check_values(
     selector: Option<ScalarKind>,
     cases: &[SwitchCase],
     span: Span,
-) -> Result<(), Refused>
+) -> Result<(), Refused<FunctionError>>
     ensures { Answers (FirstOf (value_points selector [] (values_of (case_list cases.now)))) result }
 {
     if are_rising(selector, cases) || are_distinct(alloc, selector, cases)? {
@@ -189,7 +188,7 @@ fn check_each_value(
     selector: Option<ScalarKind>,
     cases: &[SwitchCase],
     span: Span,
-) -> Result<(), Refused>
+) -> Result<(), Refused<FunctionError>>
     ensures { Answers (FirstOf (value_points selector [] (values_of (case_list cases.now)))) result }
 {
     let mut earlier = BTreeSet::new(alloc);

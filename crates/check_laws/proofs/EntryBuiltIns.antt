@@ -25,7 +25,7 @@ use Rattle.check_varyings.proofs.TypesAt.{inner_is, named_at}
 use Rattle.check_varyings.specs.BuiltIns.{built_in_rule, canonical, is_same_built_in}
 use Rattle.ir_types.specs.TypeInfos.{type_has}
 use Rattle.check_varyings.specs.VaryingFaults.{Itself}
-use Rattle.check_varyings.specs.Varyings.{Part, Placed, Bound, BlendSources, UnboundMember, Unbound, built_in_points, go_same_way, is_built_in, member_part, member_parts, part_points, parts_of, placed, placed_parts, placed_points, ruled_points, seen_at, unbound_parts, group_parts}
+use Rattle.check_varyings.specs.Varyings.{VaryingPart, Placed, Bound, BlendSources, UnboundMember, Unbound, built_in_points, go_same_way, is_built_in, member_part, member_parts, part_points, parts_of, placed, placed_parts, placed_points, ruled_points, seen_at, unbound_parts, group_parts}
 use Rattle.check_varyings.specs.declared.varying.MeshOutputType.TheVariants.{Neither}
 use Rattle.check_varyings.specs.declared.varying.VaryingPlace.{VaryingPlace}
 use Rattle.check_entry.specs.EntryFaults.{OfArgument}
@@ -37,7 +37,7 @@ use Rattle.check_laws.proofs.EntryFacts.{none_within, arguments_hold}
 use Rattle.check_scope.proofs.Flat.{holds_at}
 
 -- there is a type where a part is bound
-abbrev HasType : List IrType → Part → Type 0
+abbrev HasType : List IrType → VaryingPart → Type 0
 HasType types (Bound ty given) = (i : TypeInner) × (inner_at types ty ≡ Some i)
 HasType types _ = ⊤
 
@@ -83,7 +83,7 @@ module _ (types : List IrType) where
         let named : IfSome (Some t.0.inner) (NamesTypesBelow (length types)) = named_at types ty t.0 lt all t.1 in
         typed_unbound (type_has infos ty IO_SHAREABLE) (inner_at types ty) (subst (λ i. IfSome i (NamesTypesBelow (length types))) (sym (inner_is types ty t.0 t.1)) named)
 
-    placed_there : (place : VaryingPlace) (parts : List Part) → AllByRecursion (HasType types) parts → AllByRecursion (IsThere place types) (placed place parts)
+    placed_there : (place : VaryingPlace) (parts : List VaryingPart) → AllByRecursion (HasType types) parts → AllByRecursion (IsThere place types) (placed place parts)
     placed_there place [] h = tt
     placed_there place (p ∷ ps) h = (record { at = refl; typed = h.0 }, placed_there place ps h.1)
 
@@ -96,7 +96,7 @@ module _ (types : List IrType) where
         all_both (IsThere place types) (placed_parts types infos (argument_item settings ep a)) (group_parts types infos (map (argument_item settings ep) more)) (placed_there place (parts_of types infos a.ty a.binding) (typed_parts a.ty a.binding (h 0 a first))) (arguments_there settings ep more (λ k d lt. let later : suc k < length (a ∷ more) = omega arith in h (suc k) d later))
 
   -- a part that passes is a built-in that is new
-  new_at : (infos : List TypeInfo) (place : VaryingPlace) (earlier : List Placed) (part : Part) (b : BuiltIn) → HasType types part → IsBuiltIn b part → first_fault (part_points place types infos (seen_at place earlier) part) ≡ None →
+  new_at : (infos : List TypeInfo) (place : VaryingPlace) (earlier : List Placed) (part : VaryingPart) (b : BuiltIn) → HasType types part → IsBuiltIn b part → first_fault (part_points place types infos (seen_at place earlier) part) ≡ None →
       list_any (λ (p : Placed). go_same_way place p.place && is_built_in b p.part) earlier ≡ false
   new_at infos place earlier (Bound ty (binding.BuiltIn given)) b typed is h =
       let seen = seen_at place earlier in
@@ -112,7 +112,7 @@ module _ (types : List IrType) where
 own_built_in : (b c : BuiltIn) → b ≡ c → is_same_built_in b c ≡ true
 own_built_in b c e = subst (λ x. is_same_built_in b x ≡ true) e (built_in_laws.refl b)
 
-is_it : (b : BuiltIn) (part : Part) → IsBuiltIn b part → is_built_in b part ≡ true
+is_it : (b : BuiltIn) (part : VaryingPart) → IsBuiltIn b part → is_built_in b part ≡ true
 is_it b (Bound ty (binding.BuiltIn given)) e = own_built_in b (canonical given) e
 is_it b (Bound ty (binding.Location l i s f p)) e = absurd e
 is_it b BlendSources e = absurd e

@@ -19,7 +19,7 @@ use Rattle.check_varyings.specs.Locations.{carried_type, interpolation_points, l
 use Rattle.ir_facts.specs.WhatIsChecked.{checks_bindings}
 use Rattle.ir_facts.specs.Meaning.{Meaning}
 use Rattle.check_varyings.specs.VaryingFaults.{VaryingFault, Itself}
-use Rattle.check_varyings.specs.Varyings.{Item, Part, Placed, Bound, BlendSources, UnboundMember, Unbound, blend_points, group_points_from, is_at, item_points, part_points, placed, placed_parts, placed_points, seen_at, group_parts}
+use Rattle.check_varyings.specs.Varyings.{Item, VaryingPart, Placed, Bound, BlendSources, UnboundMember, Unbound, blend_points, group_points_from, is_at, item_points, part_points, placed, placed_parts, placed_points, seen_at, group_parts}
 use Rattle.check_varyings.specs.declared.varying.MeshOutputType.TheVariants.{VertexOutput, PrimitiveOutput}
 use Rattle.check_varyings.specs.declared.varying.VaryingPlace.{VaryingPlace}
 use Rattle.check_entry.specs.EntryFaults.{EntryFault, OfArgument, OfResult, fault_of}
@@ -71,12 +71,12 @@ all_both P (x ∷ xs) ys h g = (h.0, all_both P xs ys h.1 g)
 abbrev IsChecked : VaryingPlace → Type 0
 IsChecked place = checks_bindings place.flags ≡ true
 
-all_placed : (place : VaryingPlace) (parts : List Part) → IsChecked place → AllByRecursion (λ (p : Placed). IsChecked p.place) (placed place parts)
+all_placed : (place : VaryingPlace) (parts : List VaryingPart) → IsChecked place → AllByRecursion (λ (p : Placed). IsChecked p.place) (placed place parts)
 all_placed place [] h = tt
 all_placed place (p ∷ ps) h = (h, all_placed place ps h)
 
 -- a part that takes a location is at it
-takes_at : (l : ℕ) (part : Part) → TakesLocation l part → is_at l part ≡ true
+takes_at : (l : ℕ) (part : VaryingPart) → TakesLocation l part → is_at l part ≡ true
 takes_at l (Bound ty (binding.Location given i s f p)) e = same_number l given e
 takes_at l (Bound ty (binding.BuiltIn b)) e = absurd e
 takes_at l BlendSources e = same_number l 0 e
@@ -117,7 +117,7 @@ module _ (types : List IrType) (infos : List TypeInfo) where
       subst (λ l. Passes l p) (append_assoc earlier (q ∷ []) (take k qs)) (part_none qs (earlier ++ q ∷ []) (both_hold (part_points q.place types infos (seen_at q.place earlier) q.part) (placed_points types infos (earlier ++ q ∷ []) qs) h).1 k p e)
 
   -- a part that passes takes a location that is free
-  free_at : (place : VaryingPlace) (earlier : List Placed) (part : Part) (l : ℕ) → IsChecked place → TakesLocation l part → first_fault (part_points place types infos (seen_at place earlier) part) ≡ None → list_any (λ (p : Placed). is_at l p.part) earlier ≡ false
+  free_at : (place : VaryingPlace) (earlier : List Placed) (part : VaryingPart) (l : ℕ) → IsChecked place → TakesLocation l part → first_fault (part_points place types infos (seen_at place earlier) part) ≡ None → list_any (λ (p : Placed). is_at l p.part) earlier ≡ false
   free_at place earlier (Bound ty (binding.Location given i s f p)) l on is h =
       let seen = seen_at place earlier in
       let carried = carried_type types ty i in

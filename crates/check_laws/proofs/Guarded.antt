@@ -32,7 +32,7 @@ use Rattle.check_statement.specs.Past.{Past}
 use Rattle.check_scope.specs.Results.{is_result}
 use Rattle.check_statement.specs.Rules.{points_at}
 use Rattle.check_statement.specs.walk.State.{State, seen, kept_rules, begin_state, state_left}
-use Rattle.check_scope.specs.ExpressionTypes.{is_integer, expression_at, type_at, scalar_kind_at}
+use Rattle.check_scope.specs.ExpressionTypes.{is_integer_kind, expression_at, type_at, scalar_kind_at}
 use Rattle.check_memory.proofs.Atomics.{atomic_fits}
 use Rattle.check_flow.proofs.Calls.{call_fits}
 use Rattle.check_flow.proofs.Emits.{or_false, within_more}
@@ -116,7 +116,7 @@ node_fits context past place (StatementNode (Leaf acts _ span)) made e = (subst 
 node_fits context past place (StatementNode (Block b)) made e = (tt, tt)
 node_fits context past place (StatementNode (Branch h x y)) made e = ((use_fits place h ((is_bool_scalar (type_at context h), InvalidIfType h) ∷ []) e, tt), tt)
 node_fits context past place (StatementNode (Switch h cs)) made e =
-    ((use_fits place h ((is_integer (scalar_kind_at context h), InvalidSwitchType h) ∷ (value_points (scalar_kind_at context h) [] (values_of cs) ++ cases_points cs)) e, tt), tt)
+    ((use_fits place h ((is_integer_kind (scalar_kind_at context h), InvalidSwitchType h) ∷ (value_points (scalar_kind_at context h) [] (values_of cs) ++ cases_points cs)) e, tt), tt)
 node_fits context past place (StatementNode (Loop b c q)) made e = (tt, tt)
 node_fits context past place (StatementNode Break) made e = (tt, (first_holds place.abilities.can_break BreakOutsideOfLoopOrSwitch [] e).0)
 node_fits context past place (StatementNode Continue) made e = (tt, (first_holds place.abilities.can_continue ContinueOutsideOfLoop [] e).0)

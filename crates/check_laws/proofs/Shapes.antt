@@ -35,7 +35,7 @@ use Rattle.check_scope.specs.ScopePoints.{use_point, may_use}
 use Rattle.check_statement.specs.Rules.{points_at}
 use Rattle.check_laws.specs.BodyShapes.{StandsAt, is_in_continuing, HasNoReturnInContinuing, IsOfKind, AreWhole, HasWholeSwitches}
 use Rattle.check_statement.specs.walk.State.{State, seen, kept_rules, begin_state, state_left, state_behind}
-use Rattle.check_scope.specs.ExpressionTypes.{is_integer, scalar_kind_at}
+use Rattle.check_scope.specs.ExpressionTypes.{is_integer_kind, scalar_kind_at}
 use Rattle.check_laws.proofs.Accepted.{all_visits, walked}
 
 -- the values of cases that pass
@@ -169,8 +169,8 @@ module _ (context : Context) where
   switch_whole past place h cases e =
       let k = scalar_kind_at context h in
       let behind = value_points k [] (values_of cases) ++ cases_points cases in
-      let used = first_holds (may_use place h) (Expression h NotInScope) ((is_integer k, InvalidSwitchType h) ∷ behind) e in
-      let of_integers = first_holds (is_integer k) (InvalidSwitchType h) behind used.1 in
+      let used = first_holds (may_use place h) (Expression h NotInScope) ((is_integer_kind k, InvalidSwitchType h) ∷ behind) e in
+      let of_integers = first_holds (is_integer_kind k) (InvalidSwitchType h) behind used.1 in
       let both = both_hold (value_points k [] (values_of cases)) (cases_points cases) of_integers.1 in
       whole k cases both.0 both.1
 

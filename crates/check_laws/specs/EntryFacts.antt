@@ -25,7 +25,7 @@ use Rattle.ir_types.specs.declared.type_info.TypeInfo.{TypeInfo}
 use Rattle.check_varyings.specs.BuiltIns.{canonical}
 use Rattle.ir_facts.specs.WhatIsChecked.{checks_bindings}
 use Rattle.ir_facts.specs.Meaning.{Meaning}
-use Rattle.check_varyings.specs.Varyings.{Item, Part, Placed, Bound, BlendSources, group_parts}
+use Rattle.check_varyings.specs.Varyings.{Item, VaryingPart, Placed, Bound, BlendSources, group_parts}
 use Rattle.check_varyings.specs.declared.varying.MeshOutputType.TheVariants.{VertexOutput, PrimitiveOutput}
 use Rattle.check_laws.specs.EntryJudgement.{entry_judgement}
 use Rattle.check_entry.specs.EntryVaryings.{argument_item, result_items, output_item}
@@ -47,7 +47,7 @@ BindingsAreDistinct globals uses =
     (b : ResourceBinding) (h k : ℕ) → IsUsedAt globals uses b h → IsUsedAt globals uses b k → h ≡ k
 
 -- a part takes this location: it is bound there, or is the two sources of a blend, which take location 0
-abbrev pub TakesLocation : ℕ → Part → Type 0
+abbrev pub TakesLocation : ℕ → VaryingPart → Type 0
 TakesLocation l (Bound ty (binding.Location given interpolation sampling blend_src per_primitive)) = l ≡ given
 TakesLocation l BlendSources = l ≡ 0
 TakesLocation l _ = ⊥
@@ -59,7 +59,7 @@ LocationsAreDistinct parts =
     TakesLocation l q.part → i ≡ j
 
 -- a part is this built-in, once `invariant` and `perspective` are cleared
-abbrev pub IsBuiltIn : BuiltIn → Part → Type 0
+abbrev pub IsBuiltIn : BuiltIn → VaryingPart → Type 0
 IsBuiltIn b (Bound ty (binding.BuiltIn given)) = b ≡ canonical given
 IsBuiltIn b _ = ⊥
 

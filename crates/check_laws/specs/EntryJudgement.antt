@@ -44,9 +44,3 @@ entry_judgement below settings infos trace program earlier ep =
     and_then (answer (first_fault (within fault_of (start_points settings.capabilities ep))) ep) (λ _.
     and_then (of_function (function_judgement below settings infos trace program earlier ep.function true)) (λ outcome.
     interface_step below settings infos program ep outcome))
-
--- the answer is right; or there was no memory, and none of these points, which come first, fails
-abbrev pub AnswersAfter : {A E Fault : Type 0} → List (Point Fault) → Result A E → Result A (Refusal E) → Type 0
-AnswersAfter first right (Ok x) = right ≡ Ok x
-AnswersAfter first right (Err (Fault e)) = right ≡ Err e
-AnswersAfter first right (Err Memory) = first_fault first ≡ None

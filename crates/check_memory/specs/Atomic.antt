@@ -29,7 +29,7 @@ use Rattle.check_scope.specs.ScopePoints.{Points, use_point, put_point}
 use Rattle.check_scope.specs.Results.{is_fresh}
 use Rattle.check_scope.specs.Pointers.{space_at}
 use Rattle.ir_types.specs.TypeTests.{is_scalar, both_are, is_equivalent, it_is, is_exchange_struct}
-use Rattle.check_scope.specs.ExpressionTypes.{is_integer, expression_at, type_at}
+use Rattle.check_scope.specs.ExpressionTypes.{is_integer_kind, expression_at, type_at}
 
 -- a point whose fault stands inside InvalidAtomic
 abbrev pub atomic_point : Bool → AtomicError → Point FunctionError
@@ -57,7 +57,7 @@ atomic_space context pointer = unwrap_or (space_at context pointer) space.Functi
 
 -- an integer of 64 bits, of either sign
 abbrev pub is_int64 : Scalar → Bool
-is_int64 s = is_integer (Some s.kind) && (s.width == 8)
+is_int64 s = is_integer_kind (Some s.kind) && (s.width == 8)
 
 -- a float of 32 bits
 abbrev pub is_float32 : Scalar → Bool
@@ -103,18 +103,117 @@ scalar_points capabilities s p fun has_result =
     else []
 
 abbrev pub is_atomic_result : Option Expression → Bool
+is_atomic_result None = false
 is_atomic_result (Some (e.AtomicResult ty comparison)) = true
-is_atomic_result _ = false
+is_atomic_result (Some (e.Literal l)) = false
+is_atomic_result (Some (e.Constant h)) = false
+is_atomic_result (Some (e.Override h)) = false
+is_atomic_result (Some (e.ZeroValue ty)) = false
+is_atomic_result (Some (e.Compose ty components)) = false
+is_atomic_result (Some (e.Access base index)) = false
+is_atomic_result (Some (e.AccessIndex base index)) = false
+is_atomic_result (Some (e.FunctionArgument i)) = false
+is_atomic_result (Some (e.GlobalVariable h)) = false
+is_atomic_result (Some (e.LocalVariable h)) = false
+is_atomic_result (Some (e.Load pointer)) = false
+is_atomic_result (Some (e.CallResult f)) = false
+is_atomic_result (Some (e.WorkGroupUniformLoadResult ty)) = false
+is_atomic_result (Some e.RayQueryProceedResult) = false
+is_atomic_result (Some e.SubgroupBallotResult) = false
+is_atomic_result (Some (e.SubgroupOperationResult ty)) = false
+is_atomic_result (Some (e.Splat detail operands)) = false
+is_atomic_result (Some (e.Swizzle detail operands)) = false
+is_atomic_result (Some (e.ImageSample detail operands)) = false
+is_atomic_result (Some (e.ImageLoad detail operands)) = false
+is_atomic_result (Some (e.ImageQuery detail operands)) = false
+is_atomic_result (Some (e.Unary detail operands)) = false
+is_atomic_result (Some (e.Binary detail operands)) = false
+is_atomic_result (Some (e.Select detail operands)) = false
+is_atomic_result (Some (e.Derivative detail operands)) = false
+is_atomic_result (Some (e.Relational detail operands)) = false
+is_atomic_result (Some (e.Math detail operands)) = false
+is_atomic_result (Some (e.As detail operands)) = false
+is_atomic_result (Some (e.ArrayLength detail operands)) = false
+is_atomic_result (Some (e.RayQueryGetIntersection detail operands)) = false
+is_atomic_result (Some (e.RayQueryVertexPositions detail operands)) = false
+is_atomic_result (Some (e.CooperativeLoad detail operands)) = false
+is_atomic_result (Some (e.CooperativeMultiplyAdd detail operands)) = false
 
 -- whether an atomic result is that of a compare exchange
 abbrev pub is_comparison : Option Expression → Bool
+is_comparison None = false
 is_comparison (Some (e.AtomicResult ty comparison)) = comparison
-is_comparison _ = false
+is_comparison (Some (e.Literal l)) = false
+is_comparison (Some (e.Constant h)) = false
+is_comparison (Some (e.Override h)) = false
+is_comparison (Some (e.ZeroValue ty)) = false
+is_comparison (Some (e.Compose ty components)) = false
+is_comparison (Some (e.Access base index)) = false
+is_comparison (Some (e.AccessIndex base index)) = false
+is_comparison (Some (e.FunctionArgument i)) = false
+is_comparison (Some (e.GlobalVariable h)) = false
+is_comparison (Some (e.LocalVariable h)) = false
+is_comparison (Some (e.Load pointer)) = false
+is_comparison (Some (e.CallResult f)) = false
+is_comparison (Some (e.WorkGroupUniformLoadResult ty)) = false
+is_comparison (Some e.RayQueryProceedResult) = false
+is_comparison (Some e.SubgroupBallotResult) = false
+is_comparison (Some (e.SubgroupOperationResult ty)) = false
+is_comparison (Some (e.Splat detail operands)) = false
+is_comparison (Some (e.Swizzle detail operands)) = false
+is_comparison (Some (e.ImageSample detail operands)) = false
+is_comparison (Some (e.ImageLoad detail operands)) = false
+is_comparison (Some (e.ImageQuery detail operands)) = false
+is_comparison (Some (e.Unary detail operands)) = false
+is_comparison (Some (e.Binary detail operands)) = false
+is_comparison (Some (e.Select detail operands)) = false
+is_comparison (Some (e.Derivative detail operands)) = false
+is_comparison (Some (e.Relational detail operands)) = false
+is_comparison (Some (e.Math detail operands)) = false
+is_comparison (Some (e.As detail operands)) = false
+is_comparison (Some (e.ArrayLength detail operands)) = false
+is_comparison (Some (e.RayQueryGetIntersection detail operands)) = false
+is_comparison (Some (e.RayQueryVertexPositions detail operands)) = false
+is_comparison (Some (e.CooperativeLoad detail operands)) = false
+is_comparison (Some (e.CooperativeMultiplyAdd detail operands)) = false
 
 -- the type that an atomic result is declared with
 abbrev pub result_type_of : List IrType → Option Expression → Option TypeInner
+result_type_of types None = None
 result_type_of types (Some (e.AtomicResult ty comparison)) = inner_at types ty
-result_type_of types _ = None
+result_type_of types (Some (e.Literal l)) = None
+result_type_of types (Some (e.Constant h)) = None
+result_type_of types (Some (e.Override h)) = None
+result_type_of types (Some (e.ZeroValue ty)) = None
+result_type_of types (Some (e.Compose ty components)) = None
+result_type_of types (Some (e.Access base index)) = None
+result_type_of types (Some (e.AccessIndex base index)) = None
+result_type_of types (Some (e.FunctionArgument i)) = None
+result_type_of types (Some (e.GlobalVariable h)) = None
+result_type_of types (Some (e.LocalVariable h)) = None
+result_type_of types (Some (e.Load pointer)) = None
+result_type_of types (Some (e.CallResult f)) = None
+result_type_of types (Some (e.WorkGroupUniformLoadResult ty)) = None
+result_type_of types (Some e.RayQueryProceedResult) = None
+result_type_of types (Some e.SubgroupBallotResult) = None
+result_type_of types (Some (e.SubgroupOperationResult ty)) = None
+result_type_of types (Some (e.Splat detail operands)) = None
+result_type_of types (Some (e.Swizzle detail operands)) = None
+result_type_of types (Some (e.ImageSample detail operands)) = None
+result_type_of types (Some (e.ImageLoad detail operands)) = None
+result_type_of types (Some (e.ImageQuery detail operands)) = None
+result_type_of types (Some (e.Unary detail operands)) = None
+result_type_of types (Some (e.Binary detail operands)) = None
+result_type_of types (Some (e.Select detail operands)) = None
+result_type_of types (Some (e.Derivative detail operands)) = None
+result_type_of types (Some (e.Relational detail operands)) = None
+result_type_of types (Some (e.Math detail operands)) = None
+result_type_of types (Some (e.As detail operands)) = None
+result_type_of types (Some (e.ArrayLength detail operands)) = None
+result_type_of types (Some (e.RayQueryGetIntersection detail operands)) = None
+result_type_of types (Some (e.RayQueryVertexPositions detail operands)) = None
+result_type_of types (Some (e.CooperativeLoad detail operands)) = None
+result_type_of types (Some (e.CooperativeMultiplyAdd detail operands)) = None
 
 abbrev pub result_type_at : Context → ℕ → Option TypeInner
 result_type_at context r = result_type_of context.program.types (expression_at context r)

@@ -18,13 +18,55 @@ use Rattle.ir_types.specs.TypeTests.{is_scalar, both_are, is_equivalent}
 use Rattle.check_scope.specs.ExpressionTypes.{expression_at, type_at}
 
 abbrev pub is_work_group : Option AddressSpace → Bool
+is_work_group None = false
+is_work_group (Some space.Function) = false
+is_work_group (Some space.Private) = false
 is_work_group (Some space.WorkGroup) = true
-is_work_group _ = false
+is_work_group (Some space.Uniform) = false
+is_work_group (Some (space.Storage access)) = false
+is_work_group (Some space.Handle) = false
+is_work_group (Some space.Immediate) = false
+is_work_group (Some space.TaskPayload) = false
+is_work_group (Some space.RayPayload) = false
+is_work_group (Some space.IncomingRayPayload) = false
 
 -- the type that the result of a load is declared with
 abbrev pub loaded_type_of : Option Expression → Option ℕ
+loaded_type_of None = None
 loaded_type_of (Some (e.WorkGroupUniformLoadResult ty)) = Some ty
-loaded_type_of _ = None
+loaded_type_of (Some (e.Literal l)) = None
+loaded_type_of (Some (e.Constant h)) = None
+loaded_type_of (Some (e.Override h)) = None
+loaded_type_of (Some (e.ZeroValue ty)) = None
+loaded_type_of (Some (e.Compose ty components)) = None
+loaded_type_of (Some (e.Access base index)) = None
+loaded_type_of (Some (e.AccessIndex base index)) = None
+loaded_type_of (Some (e.FunctionArgument i)) = None
+loaded_type_of (Some (e.GlobalVariable h)) = None
+loaded_type_of (Some (e.LocalVariable h)) = None
+loaded_type_of (Some (e.Load pointer)) = None
+loaded_type_of (Some (e.CallResult f)) = None
+loaded_type_of (Some (e.AtomicResult ty comparison)) = None
+loaded_type_of (Some e.RayQueryProceedResult) = None
+loaded_type_of (Some e.SubgroupBallotResult) = None
+loaded_type_of (Some (e.SubgroupOperationResult ty)) = None
+loaded_type_of (Some (e.Splat detail operands)) = None
+loaded_type_of (Some (e.Swizzle detail operands)) = None
+loaded_type_of (Some (e.ImageSample detail operands)) = None
+loaded_type_of (Some (e.ImageLoad detail operands)) = None
+loaded_type_of (Some (e.ImageQuery detail operands)) = None
+loaded_type_of (Some (e.Unary detail operands)) = None
+loaded_type_of (Some (e.Binary detail operands)) = None
+loaded_type_of (Some (e.Select detail operands)) = None
+loaded_type_of (Some (e.Derivative detail operands)) = None
+loaded_type_of (Some (e.Relational detail operands)) = None
+loaded_type_of (Some (e.Math detail operands)) = None
+loaded_type_of (Some (e.As detail operands)) = None
+loaded_type_of (Some (e.ArrayLength detail operands)) = None
+loaded_type_of (Some (e.RayQueryGetIntersection detail operands)) = None
+loaded_type_of (Some (e.RayQueryVertexPositions detail operands)) = None
+loaded_type_of (Some (e.CooperativeLoad detail operands)) = None
+loaded_type_of (Some (e.CooperativeMultiplyAdd detail operands)) = None
 
 abbrev pub loaded_type_at : Context → ℕ → Option ℕ
 loaded_type_at context r = loaded_type_of (expression_at context r)

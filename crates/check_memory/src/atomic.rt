@@ -16,13 +16,12 @@ ghost use Rattle.check_scope.specs.walk.Table.{HasPut, count, filled_in, known};
 
 use check_scope::context::BlockContext;
 use check_scope::refuse::{answer, check_put, check_use};
-use check_scope::refused::Refused;
 use check_scope::results::is_fresh;
 use check_scope::table::{FilledColumn, ScopeColumn};
-use check_scope::types::{inner_at, is_equivalent, is_exchange_struct, is_integer, is_scalar};
+use check_scope::types::{inner_at, is_equivalent, is_exchange_struct, is_integer_kind, is_scalar};
 use ir_arena::handle::Handle;
 use ir_arena::span::Span;
-use ir_arena::tag;
+use ir_arena::{Refused, tag};
 use ir_errors::function::{AtomicError, FunctionError};
 use ir_flags::capabilities::Capabilities;
 use ir_leaves::scalars::{Scalar, ScalarKind};
@@ -53,7 +52,7 @@ pub fn validate_atomic(
     context: &BlockContext,
     operation: &AtomicOperation,
     span: Span,
-) -> Result<(), Refused>
+) -> Result<(), Refused<FunctionError>>
     requires context { ContextFits (context_of context.now) }
     requires result { IfSome operation.now.named (λ r. r < count scope.old) }
     ensures fault { Answers (FirstOf (atomic_points (context_of context.now) (filled_in filled.now)
@@ -178,7 +177,7 @@ fn check_scalar(
 fn is_int64(scalar: Scalar) -> bool
     ensures { result ≡ is_int64 scalar }
 {
-    is_integer(Some(scalar.kind)) && scalar.width == 8
+    is_integer_kind(Some(scalar.kind)) && scalar.width == 8
 }
 
 fn is_float32(scalar: Scalar) -> bool
@@ -201,7 +200,18 @@ fn int64_capability(fun: &AtomicFunction, space: &AddressSpace, has_result: bool
 fn is_storage(space: &AddressSpace) -> bool
     ensures { result ≡ is_storage space.now }
 {
-    matches!(space, AddressSpace::Storage { .. })
+    match space {
+        AddressSpace::Storage { .. } => true,
+        AddressSpace::Function
+        | AddressSpace::Private
+        | AddressSpace::WorkGroup
+        | AddressSpace::Uniform
+        | AddressSpace::Handle
+        | AddressSpace::Immediate
+        | AddressSpace::TaskPayload
+        | AddressSpace::RayPayload
+        | AddressSpace::IncomingRayPayload => false,
+    }
 }
 
 fn is_done_on_floats(fun: &AtomicFunction) -> bool
@@ -262,7 +272,45 @@ fn is_plain_exchange(fun: &AtomicFunction) -> bool
 fn is_atomic_result(expression: Option<&Expression>) -> bool
     ensures { result ≡ is_atomic_result (option_copied expression.entry) }
 {
-    matches!(expression, Some(Expression::AtomicResult { .. }))
+    match expression {
+        None => false,
+        Some(Expression::AtomicResult { .. }) => true,
+        Some(
+            Expression::Literal(_)
+            | Expression::Constant(_)
+            | Expression::Override(_)
+            | Expression::ZeroValue(_)
+            | Expression::Compose { .. }
+            | Expression::Access { .. }
+            | Expression::AccessIndex { .. }
+            | Expression::FunctionArgument(_)
+            | Expression::GlobalVariable(_)
+            | Expression::LocalVariable(_)
+            | Expression::Load { .. }
+            | Expression::CallResult(_)
+            | Expression::WorkGroupUniformLoadResult { .. }
+            | Expression::RayQueryProceedResult
+            | Expression::SubgroupBallotResult
+            | Expression::SubgroupOperationResult { .. }
+            | Expression::Splat { .. }
+            | Expression::Swizzle { .. }
+            | Expression::ImageSample { .. }
+            | Expression::ImageLoad { .. }
+            | Expression::ImageQuery { .. }
+            | Expression::Unary { .. }
+            | Expression::Binary { .. }
+            | Expression::Select { .. }
+            | Expression::Derivative { .. }
+            | Expression::Relational { .. }
+            | Expression::Math { .. }
+            | Expression::As { .. }
+            | Expression::ArrayLength { .. }
+            | Expression::RayQueryGetIntersection { .. }
+            | Expression::RayQueryVertexPositions { .. }
+            | Expression::CooperativeLoad { .. }
+            | Expression::CooperativeMultiplyAdd { .. },
+        ) => false,
+    }
 }
 
 /// What a compare exchange compares with.
@@ -342,8 +390,43 @@ fn result_type<'a>(
     ensures { option_copied result ≡ result_type_at (context_of context.now) handle }
 {
     match context.expression(handle) {
+        None => None,
         Some(Expression::AtomicResult { ty, .. }) => inner_at(context, *ty),
-        _ => None,
+        Some(
+            Expression::Literal(_)
+            | Expression::Constant(_)
+            | Expression::Override(_)
+            | Expression::ZeroValue(_)
+            | Expression::Compose { .. }
+            | Expression::Access { .. }
+            | Expression::AccessIndex { .. }
+            | Expression::FunctionArgument(_)
+            | Expression::GlobalVariable(_)
+            | Expression::LocalVariable(_)
+            | Expression::Load { .. }
+            | Expression::CallResult(_)
+            | Expression::WorkGroupUniformLoadResult { .. }
+            | Expression::RayQueryProceedResult
+            | Expression::SubgroupBallotResult
+            | Expression::SubgroupOperationResult { .. }
+            | Expression::Splat { .. }
+            | Expression::Swizzle { .. }
+            | Expression::ImageSample { .. }
+            | Expression::ImageLoad { .. }
+            | Expression::ImageQuery { .. }
+            | Expression::Unary { .. }
+            | Expression::Binary { .. }
+            | Expression::Select { .. }
+            | Expression::Derivative { .. }
+            | Expression::Relational { .. }
+            | Expression::Math { .. }
+            | Expression::As { .. }
+            | Expression::ArrayLength { .. }
+            | Expression::RayQueryGetIntersection { .. }
+            | Expression::RayQueryVertexPositions { .. }
+            | Expression::CooperativeLoad { .. }
+            | Expression::CooperativeMultiplyAdd { .. },
+        ) => None,
     }
 }
 
@@ -352,7 +435,42 @@ fn is_comparison(expression: Option<&Expression>) -> bool
     ensures { result ≡ is_comparison (option_copied expression.entry) }
 {
     match expression {
+        None => false,
         Some(Expression::AtomicResult { comparison, .. }) => *comparison,
-        _ => false,
+        Some(
+            Expression::Literal(_)
+            | Expression::Constant(_)
+            | Expression::Override(_)
+            | Expression::ZeroValue(_)
+            | Expression::Compose { .. }
+            | Expression::Access { .. }
+            | Expression::AccessIndex { .. }
+            | Expression::FunctionArgument(_)
+            | Expression::GlobalVariable(_)
+            | Expression::LocalVariable(_)
+            | Expression::Load { .. }
+            | Expression::CallResult(_)
+            | Expression::WorkGroupUniformLoadResult { .. }
+            | Expression::RayQueryProceedResult
+            | Expression::SubgroupBallotResult
+            | Expression::SubgroupOperationResult { .. }
+            | Expression::Splat { .. }
+            | Expression::Swizzle { .. }
+            | Expression::ImageSample { .. }
+            | Expression::ImageLoad { .. }
+            | Expression::ImageQuery { .. }
+            | Expression::Unary { .. }
+            | Expression::Binary { .. }
+            | Expression::Select { .. }
+            | Expression::Derivative { .. }
+            | Expression::Relational { .. }
+            | Expression::Math { .. }
+            | Expression::As { .. }
+            | Expression::ArrayLength { .. }
+            | Expression::RayQueryGetIntersection { .. }
+            | Expression::RayQueryVertexPositions { .. }
+            | Expression::CooperativeLoad { .. }
+            | Expression::CooperativeMultiplyAdd { .. },
+        ) => false,
     }
 }

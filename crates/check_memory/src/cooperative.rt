@@ -12,11 +12,10 @@ ghost use Rattle.check_scope.specs.walk.Table.{known};
 use check_scope::context::BlockContext;
 use check_scope::pointers::{base_type, is_writable};
 use check_scope::refuse::{answer, check_use};
-use check_scope::refused::Refused;
 use check_scope::table::ScopeColumn;
 use ir_arena::handle::Handle;
 use ir_arena::span::Span;
-use ir_arena::tag;
+use ir_arena::{Refused, tag};
 use ir_errors::function::FunctionError;
 use ir_leaves::scalars::Scalar;
 use ir_types::types::TypeInner;
@@ -28,7 +27,7 @@ pub fn check_cooperative_store(
     target: Handle<tag::Expression>,
     pointer: Handle<tag::Expression>,
     span: Span,
-) -> Result<(), Refused>
+) -> Result<(), Refused<FunctionError>>
     requires { ContextFits (context_of context.now) }
     ensures fault { Answers
         (FirstOf (cooperative_points (context_of context.now) (place_at (known scope.now)) target pointer)) result }

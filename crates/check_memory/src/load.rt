@@ -13,12 +13,11 @@ use crate::atomic::atomic_scalar;
 use check_scope::context::BlockContext;
 use check_scope::pointers::space;
 use check_scope::refuse::{answer, check_put, check_use};
-use check_scope::refused::Refused;
 use check_scope::table::ScopeColumn;
 use check_scope::types::{is_equivalent, is_scalar};
 use ir_arena::handle::Handle;
 use ir_arena::span::Span;
-use ir_arena::tag;
+use ir_arena::{Refused, tag};
 use ir_errors::function::FunctionError;
 use ir_module::expressions::Expression;
 use ir_types::types::{AddressSpace, TypeInner};
@@ -30,7 +29,7 @@ pub fn validate_load(
     pointer: Handle<tag::Expression>,
     loaded: Handle<tag::Expression>,
     span: Span,
-) -> Result<(), Refused>
+) -> Result<(), Refused<FunctionError>>
     requires context { ContextFits (context_of context.now) }
     requires result { loaded < count scope.old }
     ensures fault { Answers (FirstOf (load_points (context_of context.now) (place_at (known scope.old)) pointer
@@ -74,7 +73,21 @@ fn check_load(
 fn is_work_group(space: Option<AddressSpace>) -> bool
     ensures { result ≡ is_work_group space }
 {
-    matches!(space, Some(AddressSpace::WorkGroup))
+    match space {
+        None => false,
+        Some(AddressSpace::WorkGroup) => true,
+        Some(
+            AddressSpace::Function
+            | AddressSpace::Private
+            | AddressSpace::Uniform
+            | AddressSpace::Storage { .. }
+            | AddressSpace::Handle
+            | AddressSpace::Immediate
+            | AddressSpace::TaskPayload
+            | AddressSpace::RayPayload
+            | AddressSpace::IncomingRayPayload,
+        ) => false,
+    }
 }
 
 /// The type that the result of a load is declared with.
@@ -84,8 +97,43 @@ fn loaded_type(context: &BlockContext, loaded: Handle<tag::Expression>) -> Optio
     ensures fits { IfSome result (λ ty. ty < length (context_of context.now).program.types) }
 {
     match context.expression(loaded) {
+        None => None,
         Some(Expression::WorkGroupUniformLoadResult { ty }) => Some(*ty),
-        _ => None,
+        Some(
+            Expression::Literal(_)
+            | Expression::Constant(_)
+            | Expression::Override(_)
+            | Expression::ZeroValue(_)
+            | Expression::Compose { .. }
+            | Expression::Access { .. }
+            | Expression::AccessIndex { .. }
+            | Expression::FunctionArgument(_)
+            | Expression::GlobalVariable(_)
+            | Expression::LocalVariable(_)
+            | Expression::Load { .. }
+            | Expression::CallResult(_)
+            | Expression::AtomicResult { .. }
+            | Expression::RayQueryProceedResult
+            | Expression::SubgroupBallotResult
+            | Expression::SubgroupOperationResult { .. }
+            | Expression::Splat { .. }
+            | Expression::Swizzle { .. }
+            | Expression::ImageSample { .. }
+            | Expression::ImageLoad { .. }
+            | Expression::ImageQuery { .. }
+            | Expression::Unary { .. }
+            | Expression::Binary { .. }
+            | Expression::Select { .. }
+            | Expression::Derivative { .. }
+            | Expression::Relational { .. }
+            | Expression::Math { .. }
+            | Expression::As { .. }
+            | Expression::ArrayLength { .. }
+            | Expression::RayQueryGetIntersection { .. }
+            | Expression::RayQueryVertexPositions { .. }
+            | Expression::CooperativeLoad { .. }
+            | Expression::CooperativeMultiplyAdd { .. },
+        ) => None,
     }
 }
 

@@ -3,7 +3,8 @@
 ghost use Rattle.std.specs.Prelude.{◌≡◌, ◌<◌, ◌↔◌, true, IsTrue, Some, length};
 ghost use Rattle.std.specs.Option.{option_copied};
 ghost use Rattle.ir_errors.specs.declared.function.FunctionError.TheVariants.{InvalidStoreTexture};
-ghost use Rattle.check_scope.specs.walk.Findings.{AllHold, IsRefusalFor, RefusesFaultsAlone};
+ghost use Rattle.ir_arena.specs.Refusals.{IsRefusalFor};
+ghost use Rattle.check_scope.specs.walk.Findings.{AllHold, RefusesFaultsAlone};
 ghost use Rattle.ir_facts.specs.Answers.{Answers, FirstOf, IsFirstFault};
 ghost use Rattle.check_scope.specs.Context.{ContextFits};
 ghost use Rattle.check_scope.specs.walk.Place.{place_at};
@@ -17,13 +18,12 @@ ghost use Rattle.check_scope.specs.walk.Table.{KnowsRoots, known};
 use check_scope::context::BlockContext;
 use check_scope::pointers::{base_type, is_writable};
 use check_scope::refuse::not_in_scope;
-use check_scope::refused::Refused;
 use check_scope::roots::root_of;
 use check_scope::table::{RootColumn, ScopeColumn};
 use check_scope::types::{is_of_type, is_scalar};
 use ir_arena::handle::Handle;
 use ir_arena::span::Span;
-use ir_arena::tag;
+use ir_arena::{Refused, tag};
 use ir_errors::function::FunctionError;
 use ir_module::expressions::Expression;
 use ir_types::types::TypeInner;
@@ -39,7 +39,7 @@ pub fn check_store(
     pointer: Handle<tag::Expression>,
     value: Handle<tag::Expression>,
     span: &Span,
-) -> Result<(), Refused>
+) -> Result<(), Refused<FunctionError>>
     requires context { ContextFits (context_of context.now) }
     requires roots { KnowsRoots (context_of context.now) roots.old }
     ensures fault { Answers (FirstOf (store_points (context_of context.now) (place_at (known scope.now)) pointer
@@ -85,7 +85,7 @@ fn refused_store(
     pointer: Handle<tag::Expression>,
     value: Handle<tag::Expression>,
     span: &Span,
-) -> Refused
+) -> Refused<FunctionError>
     requires context { ContextFits (context_of context.now) }
     requires fails { AllHold
         (store_points (context_of context.now) (place_at (known scope.now)) pointer value) → ⊥ }
@@ -105,7 +105,7 @@ fn first_fault_of_store(
     pointer: Handle<tag::Expression>,
     value: Handle<tag::Expression>,
     span: &Span,
-) -> Result<(), Refused>
+) -> Result<(), Refused<FunctionError>>
     requires { ContextFits (context_of context.now) }
     ensures fault { Answers (FirstOf (store_points (context_of context.now) (place_at (known scope.now)) pointer
         value)) result }
@@ -249,7 +249,7 @@ fn invalid_store_texture(
     value: Handle<tag::Expression>,
     inner: Option<&TypeInner>,
     span: Span,
-) -> Refused
+) -> Refused<FunctionError>
     requires { is_texture (option_copied inner) ≡ true }
     ensures { IsRefusalFor (InvalidStoreTexture value (named_type (option_copied inner.entry))) result }
 {

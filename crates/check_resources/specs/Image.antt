@@ -22,12 +22,45 @@ use Rattle.naga_runs.specs.Visits.{Place}
 use Rattle.check_scope.specs.Context.{Context}
 use Rattle.check_scope.specs.ScopePoints.{Points, use_point}
 use Rattle.check_scope.specs.Roots.{access_base}
-use Rattle.check_scope.specs.ExpressionTypes.{is_integer, expression_at, type_at}
+use Rattle.check_scope.specs.ExpressionTypes.{is_integer_kind, expression_at, type_at}
 
 -- the type that the global is declared with which an expression is
 abbrev pub global_type_of : Context → Option Expression → Option ℕ
+global_type_of context None = None
 global_type_of context (Some (e.GlobalVariable g)) = option_map (λ v. v.ty) (slice_get context.program.global_variables g)
-global_type_of context _ = None
+global_type_of context (Some (e.Literal l)) = None
+global_type_of context (Some (e.Constant h)) = None
+global_type_of context (Some (e.Override h)) = None
+global_type_of context (Some (e.ZeroValue ty)) = None
+global_type_of context (Some (e.Compose ty components)) = None
+global_type_of context (Some (e.Access base index)) = None
+global_type_of context (Some (e.AccessIndex base index)) = None
+global_type_of context (Some (e.FunctionArgument i)) = None
+global_type_of context (Some (e.LocalVariable h)) = None
+global_type_of context (Some (e.Load pointer)) = None
+global_type_of context (Some (e.CallResult f)) = None
+global_type_of context (Some (e.AtomicResult ty comparison)) = None
+global_type_of context (Some (e.WorkGroupUniformLoadResult ty)) = None
+global_type_of context (Some e.RayQueryProceedResult) = None
+global_type_of context (Some e.SubgroupBallotResult) = None
+global_type_of context (Some (e.SubgroupOperationResult ty)) = None
+global_type_of context (Some (e.Splat detail operands)) = None
+global_type_of context (Some (e.Swizzle detail operands)) = None
+global_type_of context (Some (e.ImageSample detail operands)) = None
+global_type_of context (Some (e.ImageLoad detail operands)) = None
+global_type_of context (Some (e.ImageQuery detail operands)) = None
+global_type_of context (Some (e.Unary detail operands)) = None
+global_type_of context (Some (e.Binary detail operands)) = None
+global_type_of context (Some (e.Select detail operands)) = None
+global_type_of context (Some (e.Derivative detail operands)) = None
+global_type_of context (Some (e.Relational detail operands)) = None
+global_type_of context (Some (e.Math detail operands)) = None
+global_type_of context (Some (e.As detail operands)) = None
+global_type_of context (Some (e.ArrayLength detail operands)) = None
+global_type_of context (Some (e.RayQueryGetIntersection detail operands)) = None
+global_type_of context (Some (e.RayQueryVertexPositions detail operands)) = None
+global_type_of context (Some (e.CooperativeLoad detail operands)) = None
+global_type_of context (Some (e.CooperativeMultiplyAdd detail operands)) = None
 
 abbrev pub global_type_at : Context → ℕ → Option ℕ
 global_type_at context h = global_type_of context (expression_at context h)
@@ -90,7 +123,7 @@ is_coordinate context dim coordinate = is_dimension dim (coordinates_at context 
 
 -- an integer of any width, and no vector
 abbrev pub is_integer_scalar : Option TypeInner → Bool
-is_integer_scalar (Some (inner.Scalar s)) = is_integer (Some s.kind)
+is_integer_scalar (Some (inner.Scalar s)) = is_integer_kind (Some s.kind)
 is_integer_scalar _ = false
 
 -- the array index: there where the image is arrayed, put by every run, and an integer. Its faults stand inside the statement's

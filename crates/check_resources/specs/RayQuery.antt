@@ -17,8 +17,41 @@ use Rattle.check_scope.specs.ExpressionTypes.{expression_at, type_at}
 
 -- the type that the local is declared with which an expression is
 abbrev pub local_type_of : Context → Option Expression → Option ℕ
+local_type_of context None = None
 local_type_of context (Some (e.LocalVariable v)) = option_map (λ l. l.ty) (slice_get context.fun.local_variables v)
-local_type_of context _ = None
+local_type_of context (Some (e.Literal l)) = None
+local_type_of context (Some (e.Constant h)) = None
+local_type_of context (Some (e.Override h)) = None
+local_type_of context (Some (e.ZeroValue ty)) = None
+local_type_of context (Some (e.Compose ty components)) = None
+local_type_of context (Some (e.Access base index)) = None
+local_type_of context (Some (e.AccessIndex base index)) = None
+local_type_of context (Some (e.FunctionArgument i)) = None
+local_type_of context (Some (e.GlobalVariable h)) = None
+local_type_of context (Some (e.Load pointer)) = None
+local_type_of context (Some (e.CallResult f)) = None
+local_type_of context (Some (e.AtomicResult ty comparison)) = None
+local_type_of context (Some (e.WorkGroupUniformLoadResult ty)) = None
+local_type_of context (Some e.RayQueryProceedResult) = None
+local_type_of context (Some e.SubgroupBallotResult) = None
+local_type_of context (Some (e.SubgroupOperationResult ty)) = None
+local_type_of context (Some (e.Splat detail operands)) = None
+local_type_of context (Some (e.Swizzle detail operands)) = None
+local_type_of context (Some (e.ImageSample detail operands)) = None
+local_type_of context (Some (e.ImageLoad detail operands)) = None
+local_type_of context (Some (e.ImageQuery detail operands)) = None
+local_type_of context (Some (e.Unary detail operands)) = None
+local_type_of context (Some (e.Binary detail operands)) = None
+local_type_of context (Some (e.Select detail operands)) = None
+local_type_of context (Some (e.Derivative detail operands)) = None
+local_type_of context (Some (e.Relational detail operands)) = None
+local_type_of context (Some (e.Math detail operands)) = None
+local_type_of context (Some (e.As detail operands)) = None
+local_type_of context (Some (e.ArrayLength detail operands)) = None
+local_type_of context (Some (e.RayQueryGetIntersection detail operands)) = None
+local_type_of context (Some (e.RayQueryVertexPositions detail operands)) = None
+local_type_of context (Some (e.CooperativeLoad detail operands)) = None
+local_type_of context (Some (e.CooperativeMultiplyAdd detail operands)) = None
 
 abbrev pub local_type_at : Context → ℕ → Option ℕ
 local_type_at context h = local_type_of context (expression_at context h)

@@ -26,8 +26,41 @@ is_payload_space space.RayPayload = true
 is_payload_space space.IncomingRayPayload = true
 
 abbrev pub is_global : Option Expression → Bool
+is_global None = false
 is_global (Some (e.GlobalVariable g)) = true
-is_global _ = false
+is_global (Some (e.Literal l)) = false
+is_global (Some (e.Constant h)) = false
+is_global (Some (e.Override h)) = false
+is_global (Some (e.ZeroValue ty)) = false
+is_global (Some (e.Compose ty components)) = false
+is_global (Some (e.Access base index)) = false
+is_global (Some (e.AccessIndex base index)) = false
+is_global (Some (e.FunctionArgument i)) = false
+is_global (Some (e.LocalVariable h)) = false
+is_global (Some (e.Load pointer)) = false
+is_global (Some (e.CallResult f)) = false
+is_global (Some (e.AtomicResult ty comparison)) = false
+is_global (Some (e.WorkGroupUniformLoadResult ty)) = false
+is_global (Some e.RayQueryProceedResult) = false
+is_global (Some e.SubgroupBallotResult) = false
+is_global (Some (e.SubgroupOperationResult ty)) = false
+is_global (Some (e.Splat detail operands)) = false
+is_global (Some (e.Swizzle detail operands)) = false
+is_global (Some (e.ImageSample detail operands)) = false
+is_global (Some (e.ImageLoad detail operands)) = false
+is_global (Some (e.ImageQuery detail operands)) = false
+is_global (Some (e.Unary detail operands)) = false
+is_global (Some (e.Binary detail operands)) = false
+is_global (Some (e.Select detail operands)) = false
+is_global (Some (e.Derivative detail operands)) = false
+is_global (Some (e.Relational detail operands)) = false
+is_global (Some (e.Math detail operands)) = false
+is_global (Some (e.As detail operands)) = false
+is_global (Some (e.ArrayLength detail operands)) = false
+is_global (Some (e.RayQueryGetIntersection detail operands)) = false
+is_global (Some (e.RayQueryVertexPositions detail operands)) = false
+is_global (Some (e.CooperativeLoad detail operands)) = false
+is_global (Some (e.CooperativeMultiplyAdd detail operands)) = false
 
 -- the type that a payload points to, and the space, where it is a pointer
 abbrev pub payload_base : Context → ℕ → ℕ

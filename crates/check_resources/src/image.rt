@@ -14,7 +14,7 @@ use check_scope::context::BlockContext;
 use check_scope::refuse::check_use;
 use check_scope::roots::access_base;
 use check_scope::table::ScopeColumn;
-use check_scope::types::is_integer;
+use check_scope::types::is_integer_kind;
 use ir_arena::handle::Handle;
 use ir_arena::tag;
 use ir_errors::expression::ExpressionError;
@@ -71,17 +71,52 @@ pub(crate) fn image_global(
 fn global_type(context: &BlockContext, handle: Handle<tag::Expression>) -> Option<Handle<tag::Type>>
     ensures { result ≡ global_type_at (context_of context.now) handle }
 {
-    let Some(Expression::GlobalVariable(global)) = context.expression(handle) else {
-        return None;
-    };
-    match context
-        .program
-        .global_variables
-        .as_slice()
-        .get(global.index())
-    {
-        Some(variable) => Some(variable.ty),
+    match context.expression(handle) {
         None => None,
+        Some(Expression::GlobalVariable(global)) => match context
+            .program
+            .global_variables
+            .as_slice()
+            .get(global.index())
+        {
+            Some(variable) => Some(variable.ty),
+            None => None,
+        },
+        Some(
+            Expression::Literal(_)
+            | Expression::Constant(_)
+            | Expression::Override(_)
+            | Expression::ZeroValue(_)
+            | Expression::Compose { .. }
+            | Expression::Access { .. }
+            | Expression::AccessIndex { .. }
+            | Expression::FunctionArgument(_)
+            | Expression::LocalVariable(_)
+            | Expression::Load { .. }
+            | Expression::CallResult(_)
+            | Expression::AtomicResult { .. }
+            | Expression::WorkGroupUniformLoadResult { .. }
+            | Expression::RayQueryProceedResult
+            | Expression::SubgroupBallotResult
+            | Expression::SubgroupOperationResult { .. }
+            | Expression::Splat { .. }
+            | Expression::Swizzle { .. }
+            | Expression::ImageSample { .. }
+            | Expression::ImageLoad { .. }
+            | Expression::ImageQuery { .. }
+            | Expression::Unary { .. }
+            | Expression::Binary { .. }
+            | Expression::Select { .. }
+            | Expression::Derivative { .. }
+            | Expression::Relational { .. }
+            | Expression::Math { .. }
+            | Expression::As { .. }
+            | Expression::ArrayLength { .. }
+            | Expression::RayQueryGetIntersection { .. }
+            | Expression::RayQueryVertexPositions { .. }
+            | Expression::CooperativeLoad { .. }
+            | Expression::CooperativeMultiplyAdd { .. },
+        ) => None,
     }
 }
 
@@ -182,7 +217,7 @@ fn is_integer_scalar(inner: Option<&TypeInner>) -> bool
     ensures { result ≡ is_integer_scalar (option_copied inner.entry) }
 {
     match inner {
-        Some(TypeInner::Scalar(scalar)) => is_integer(Some(scalar.kind)),
+        Some(TypeInner::Scalar(scalar)) => is_integer_kind(Some(scalar.kind)),
         _ => false,
     }
 }

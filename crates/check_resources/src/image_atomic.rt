@@ -14,12 +14,11 @@ ghost use Rattle.check_scope.specs.walk.Table.{known};
 use crate::image::{ImageShape, ImageStatement, Texel, check_texel, image_global};
 use check_scope::context::BlockContext;
 use check_scope::refuse::{answer, check_use};
-use check_scope::refused::Refused;
 use check_scope::table::ScopeColumn;
 use check_scope::types::{inner_at, is_scalar};
 use ir_arena::handle::Handle;
 use ir_arena::span::Span;
-use ir_arena::tag;
+use ir_arena::{Refused, tag};
 use ir_errors::expression::ExpressionError;
 use ir_errors::function::FunctionError;
 use ir_flags::capabilities::Capabilities;
@@ -44,7 +43,7 @@ pub fn check_image_atomic(
     image: Handle<tag::Expression>,
     operation: TexelOperation,
     span: Span,
-) -> Result<(), Refused>
+) -> Result<(), Refused<FunctionError>>
     ensures fault { Answers (FirstOf (image_atomic_points (context_of context.now) (place_at (known scope.now)) image
         operation.texel.coordinate operation.texel.array_index operation.fun operation.value)) result }
     ensures refused { RefusesFaultsAlone

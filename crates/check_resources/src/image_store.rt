@@ -16,13 +16,12 @@ ghost use Rattle.check_scope.specs.walk.Table.{known};
 use crate::image::{ImageShape, ImageStatement, Texel, check_texel, element_of, image_global};
 use check_scope::context::BlockContext;
 use check_scope::refuse::{answer, check_use};
-use check_scope::refused::Refused;
 use check_scope::roots::access_base;
 use check_scope::table::ScopeColumn;
 use check_scope::types::inner_at;
 use ir_arena::handle::Handle;
 use ir_arena::span::Span;
-use ir_arena::tag;
+use ir_arena::{Refused, tag};
 use ir_errors::expression::ExpressionError;
 use ir_errors::function::FunctionError;
 use ir_leaves::images::StorageFormat;
@@ -38,7 +37,7 @@ pub fn check_image_store(
     texel: Texel,
     value: Handle<tag::Expression>,
     span: Span,
-) -> Result<(), Refused>
+) -> Result<(), Refused<FunctionError>>
     ensures fault { Answers (FirstOf (image_store_points (context_of context.now) (place_at (known scope.now)) image
         texel.coordinate texel.array_index value)) result }
     ensures refused { RefusesFaultsAlone

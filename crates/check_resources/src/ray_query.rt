@@ -16,12 +16,11 @@ ghost use Rattle.check_scope.specs.walk.Table.{HasPut, count, known};
 
 use check_scope::context::BlockContext;
 use check_scope::refuse::{answer, check_put, check_use};
-use check_scope::refused::Refused;
 use check_scope::table::ScopeColumn;
 use check_scope::types::{are_same_inners, inner_at};
 use ir_arena::handle::Handle;
 use ir_arena::span::Span;
-use ir_arena::tag;
+use ir_arena::{Refused, tag};
 use ir_errors::function::FunctionError;
 use ir_leaves::scalars::ScalarKind;
 use ir_module::expressions::Expression;
@@ -35,7 +34,7 @@ pub fn validate_ray_query(
     query: Handle<tag::Expression>,
     fun: &RayQueryFunction,
     span: Span,
-) -> Result<(), Refused>
+) -> Result<(), Refused<FunctionError>>
     requires { QueryFits (count scope.old) fun.now }
     ensures fault { Answers (FirstOf (ray_query_points (context_of context.now) (place_at (known scope.old)) query
         fun.now)) result }
@@ -76,6 +75,7 @@ fn local_type(context: &BlockContext, handle: Handle<tag::Expression>) -> Option
     ensures { result ≡ local_type_at (context_of context.now) handle }
 {
     match context.expression(handle) {
+        None => None,
         Some(Expression::LocalVariable(variable)) => match context
             .fun
             .local_variables
@@ -85,7 +85,41 @@ fn local_type(context: &BlockContext, handle: Handle<tag::Expression>) -> Option
             Some(local) => Some(local.ty),
             None => None,
         },
-        _ => None,
+        Some(
+            Expression::Literal(_)
+            | Expression::Constant(_)
+            | Expression::Override(_)
+            | Expression::ZeroValue(_)
+            | Expression::Compose { .. }
+            | Expression::Access { .. }
+            | Expression::AccessIndex { .. }
+            | Expression::FunctionArgument(_)
+            | Expression::GlobalVariable(_)
+            | Expression::Load { .. }
+            | Expression::CallResult(_)
+            | Expression::AtomicResult { .. }
+            | Expression::WorkGroupUniformLoadResult { .. }
+            | Expression::RayQueryProceedResult
+            | Expression::SubgroupBallotResult
+            | Expression::SubgroupOperationResult { .. }
+            | Expression::Splat { .. }
+            | Expression::Swizzle { .. }
+            | Expression::ImageSample { .. }
+            | Expression::ImageLoad { .. }
+            | Expression::ImageQuery { .. }
+            | Expression::Unary { .. }
+            | Expression::Binary { .. }
+            | Expression::Select { .. }
+            | Expression::Derivative { .. }
+            | Expression::Relational { .. }
+            | Expression::Math { .. }
+            | Expression::As { .. }
+            | Expression::ArrayLength { .. }
+            | Expression::RayQueryGetIntersection { .. }
+            | Expression::RayQueryVertexPositions { .. }
+            | Expression::CooperativeLoad { .. }
+            | Expression::CooperativeMultiplyAdd { .. },
+        ) => None,
     }
 }
 

@@ -16,12 +16,11 @@ ghost use Rattle.check_scope.specs.walk.Table.{known};
 use crate::ray_query::{check_descriptor, structure_flag};
 use check_scope::context::BlockContext;
 use check_scope::refuse::{answer, check_use};
-use check_scope::refused::Refused;
 use check_scope::table::ScopeColumn;
 use check_scope::trace::{TraceRayVertexReturnState, TraceState};
 use ir_arena::handle::Handle;
 use ir_arena::span::Span;
-use ir_arena::tag;
+use ir_arena::{Refused, tag};
 use ir_errors::function::FunctionError;
 use ir_module::expressions::Expression;
 use ir_statements::operations::RayPipelineFunction;
@@ -43,7 +42,7 @@ pub fn check_trace_ray(
     so_far: &Option<Handle<tag::Type>>,
     ray: Ray,
     span: Span,
-) -> Result<(), Refused>
+) -> Result<(), Refused<FunctionError>>
     ensures fault { Answers (FirstOf (trace_ray_points (context_of context.now) so_far.now (place_at (known scope.now))
         ray.structure ray.descriptor ray.payload)) result }
     ensures refused { RefusesFaultsAlone
@@ -108,7 +107,45 @@ fn is_payload_space(space: AddressSpace) -> bool
 fn is_global(expression: Option<&Expression>) -> bool
     ensures { result ≡ is_global (option_copied expression.entry) }
 {
-    matches!(expression, Some(Expression::GlobalVariable(_)))
+    match expression {
+        None => false,
+        Some(Expression::GlobalVariable(_)) => true,
+        Some(
+            Expression::Literal(_)
+            | Expression::Constant(_)
+            | Expression::Override(_)
+            | Expression::ZeroValue(_)
+            | Expression::Compose { .. }
+            | Expression::Access { .. }
+            | Expression::AccessIndex { .. }
+            | Expression::FunctionArgument(_)
+            | Expression::LocalVariable(_)
+            | Expression::Load { .. }
+            | Expression::CallResult(_)
+            | Expression::AtomicResult { .. }
+            | Expression::WorkGroupUniformLoadResult { .. }
+            | Expression::RayQueryProceedResult
+            | Expression::SubgroupBallotResult
+            | Expression::SubgroupOperationResult { .. }
+            | Expression::Splat { .. }
+            | Expression::Swizzle { .. }
+            | Expression::ImageSample { .. }
+            | Expression::ImageLoad { .. }
+            | Expression::ImageQuery { .. }
+            | Expression::Unary { .. }
+            | Expression::Binary { .. }
+            | Expression::Select { .. }
+            | Expression::Derivative { .. }
+            | Expression::Relational { .. }
+            | Expression::Math { .. }
+            | Expression::As { .. }
+            | Expression::ArrayLength { .. }
+            | Expression::RayQueryGetIntersection { .. }
+            | Expression::RayQueryVertexPositions { .. }
+            | Expression::CooperativeLoad { .. }
+            | Expression::CooperativeMultiplyAdd { .. },
+        ) => false,
+    }
 }
 
 /// What ray traces leave after a statement: only a ray trace changes it.

@@ -1,7 +1,6 @@
 pub mod Columns
 pub mod Divided
 pub mod Flat
-pub mod Refusals
 pub mod InRange
 pub mod Walks
 pub mod Operands

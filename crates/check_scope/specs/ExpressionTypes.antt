@@ -40,10 +40,10 @@ abbrev pub scalar_kind_at : Context → ℕ → Option ScalarKind
 scalar_kind_at context h = option_and_then scalar_kind_of (type_at context h)
 
 -- integers of either sign
-abbrev pub is_integer : Option ScalarKind → Bool
-is_integer (Some kind.Uint) = true
-is_integer (Some kind.Sint) = true
-is_integer _ = false
+abbrev pub is_integer_kind : Option ScalarKind → Bool
+is_integer_kind (Some kind.Uint) = true
+is_integer_kind (Some kind.Sint) = true
+is_integer_kind _ = false
 
 abbrev pub is_bool_kind : ScalarKind → Bool
 is_bool_kind kind.Bool = true

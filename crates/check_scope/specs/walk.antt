@@ -1,7 +1,6 @@
 -- What lemmas cite, and functions that the validator alone calls: the table and the context as the code keeps them, and how it
 -- answers.
 pub mod ScopeNumbers
-pub mod Refused
 pub mod Table
 pub mod Findings
 pub mod Place

@@ -5,7 +5,6 @@
 pub mod context;
 pub mod pointers;
 pub mod refuse;
-pub mod refused;
 pub mod results;
 pub mod roots;
 pub mod table;

@@ -3,17 +3,17 @@
 ghost use Rattle.std.specs.Prelude.{[], ◌∷◌};
 ghost use Rattle.ir_errors.specs.declared.expression.ExpressionError.TheVariants.{NotInScope};
 ghost use Rattle.ir_errors.specs.declared.function.FunctionError.TheVariants.{Expression};
-ghost use Rattle.check_scope.specs.walk.Findings.{IsRefusalFor, RefusesFaultsAlone};
+ghost use Rattle.ir_arena.specs.Refusals.{IsRefusalFor};
+ghost use Rattle.check_scope.specs.walk.Findings.{RefusesFaultsAlone};
 ghost use Rattle.ir_facts.specs.Answers.{Answers, Finds, FirstOf};
 ghost use Rattle.check_scope.specs.ScopePoints.{Points, use_point, put_point};
 ghost use Rattle.check_scope.specs.walk.Place.{place_at};
 ghost use Rattle.check_scope.specs.walk.Table.{known};
 
-use crate::refused::Refused;
 use crate::table::ScopeColumn;
 use ir_arena::handle::Handle;
 use ir_arena::span::Span;
-use ir_arena::tag;
+use ir_arena::{Refused, tag};
 use ir_errors::expression::ExpressionError;
 use ir_errors::function::FunctionError;
 use std::alloc::Global;
@@ -45,7 +45,11 @@ pub fn check_put(scope: &ScopeColumn, handle: Handle<tag::Expression>) -> Result
 /// hold no fault while all is well.
 #[cold]
 #[inline(never)]
-pub fn not_in_scope(alloc: Global, handle: Handle<tag::Expression>, span: Span) -> Refused
+pub fn not_in_scope(
+    alloc: Global,
+    handle: Handle<tag::Expression>,
+    span: Span,
+) -> Refused<FunctionError>
     ensures { IsRefusalFor (Expression handle NotInScope) result }
 {
     let fault = FunctionError::Expression {
@@ -56,8 +60,12 @@ pub fn not_in_scope(alloc: Global, handle: Handle<tag::Expression>, span: Span) 
 }
 
 /// The answer of a check of the statement at a place.
-#[tactic(auto, using(crate::proofs::Refusals::refuses_fault))]
-pub fn answer(alloc: Global, checked: Result<(), FunctionError>, span: Span) -> Result<(), Refused>
+#[tactic(auto, using(ir_facts::proofs::Refusals::refuses_fault))]
+pub fn answer(
+    alloc: Global,
+    checked: Result<(), FunctionError>,
+    span: Span,
+) -> Result<(), Refused<FunctionError>>
     ensures fault { (points : Points) → Finds (FirstOf points) checked → Answers (FirstOf points) result }
     ensures refused { (points : Points) → Finds (FirstOf points) checked → RefusesFaultsAlone points result }
 {
@@ -68,13 +76,16 @@ pub fn answer(alloc: Global, checked: Result<(), FunctionError>, span: Span) -> 
 }
 
 /// The answer of a check of the function as a whole.
-#[tactic(auto, using(crate::proofs::Refusals::refuses_fault))]
-pub fn answer_of_function(alloc: Global, checked: Result<(), FunctionError>) -> Result<(), Refused>
+#[tactic(auto, using(ir_facts::proofs::Refusals::refuses_fault))]
+pub fn answer_of_function(
+    alloc: Global,
+    checked: Result<(), FunctionError>,
+) -> Result<(), Refused<FunctionError>>
     ensures fault { (points : Points) → Finds (FirstOf points) checked → Answers (FirstOf points) result }
     ensures refused { (points : Points) → Finds (FirstOf points) checked → RefusesFaultsAlone points result }
 {
     match checked {
         Ok(()) => Ok(()),
-        Err(fault) => Err(Refused::of_function(alloc, fault)),
+        Err(fault) => Err(Refused::unplaced(alloc, fault)),
     }
 }

@@ -5,7 +5,7 @@ ghost use Rattle.std.specs.Option.{option_copied};
 ghost use Rattle.ir_types.specs.Types.{NamesTypesBelow, ResolutionFits, inner_at};
 ghost use Rattle.check_scope.specs.walk.SeenContext.{context_of};
 ghost use Rattle.check_scope.specs.Context.{ContextFits};
-ghost use Rattle.check_scope.specs.ExpressionTypes.{is_integer, is_of_type};
+ghost use Rattle.check_scope.specs.ExpressionTypes.{is_integer_kind, is_of_type};
 ghost use Rattle.ir_types.specs.TypeTests.{both_are, is_same_inner, is_scalar, is_equivalent, it_is, is_exchange_struct};
 
 use crate::context::BlockContext;
@@ -88,8 +88,8 @@ pub fn is_of_type(
 }
 
 /// Whether a kind is that of integers of either sign.
-pub fn is_integer(kind: Option<ScalarKind>) -> bool
-    ensures { result ≡ is_integer kind }
+pub fn is_integer_kind(kind: Option<ScalarKind>) -> bool
+    ensures { result ≡ is_integer_kind kind }
 {
     matches!(kind, Some(ScalarKind::Uint | ScalarKind::Sint))
 }

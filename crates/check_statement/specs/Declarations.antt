@@ -34,7 +34,14 @@ variables_points context infos = points_of_each (variable_points context infos) 
 abbrev pub takes_arguments : AddressSpace → Bool
 takes_arguments space.Function = true
 takes_arguments space.Private = true
-takes_arguments _ = false
+takes_arguments space.WorkGroup = false
+takes_arguments space.Uniform = false
+takes_arguments (space.Storage access) = false
+takes_arguments space.Handle = false
+takes_arguments space.Immediate = false
+takes_arguments space.TaskPayload = false
+takes_arguments space.RayPayload = false
+takes_arguments space.IncomingRayPayload = false
 
 -- an argument that is a pointer
 abbrev pub pointer_points : ℕ → List ℕ → Option AddressSpace → Points

@@ -24,12 +24,13 @@ use check_resources::image_store::check_image_store;
 use check_resources::ray_query::validate_ray_query;
 use check_resources::ray_trace::{Ray, check_trace_ray};
 use check_scope::context::BlockContext;
-use check_scope::refused::Refused;
 use check_scope::table::Table;
 use check_subgroups::barrier::check_barrier;
 use check_subgroups::subgroup::validate_ballot;
 use check_subgroups::subgroup_collective::{Collective, validate_collective};
 use check_subgroups::subgroup_gather::validate_gather;
+use ir_arena::Refused;
+use ir_errors::function::FunctionError;
 use ir_statements::operations::RayPipelineFunction;
 use ir_statements::statements::{Located, Statement};
 use naga_runs::Abilities;
@@ -44,7 +45,7 @@ pub fn check_rarer(
     context: &BlockContext,
     abilities: &Abilities,
     located: &Located,
-) -> Result<(), Refused>
+) -> Result<(), Refused<FunctionError>>
     requires context { ContextFits (context_of context.now) }
     requires statement { IsStatementReady (context_of context.now) (tree_of (context_of context.now) located.now) }
     requires kind { is_frequent located.now.statement ≡ false }

@@ -24,11 +24,11 @@ use check_flow::call::{CallSite, validate_call};
 use check_flow::control;
 use check_memory::store::check_store;
 use check_scope::context::BlockContext;
-use check_scope::refused::Refused;
 use check_scope::table::{ScopeColumn, Table};
 use ir_arena::handle::Handle;
 use ir_arena::span::Span;
-use ir_arena::tag;
+use ir_arena::{Refused, tag};
+use ir_errors::function::FunctionError;
 use ir_flags::valid::ShaderStages;
 use ir_statements::statements::{Located, Statement};
 
@@ -36,16 +36,31 @@ use ir_statements::statements::{Located, Statement};
 pub fn is_frequent(statement: &Statement) -> bool
     ensures { result ≡ is_frequent statement.now }
 {
-    matches!(
-        statement,
+    match statement {
         Statement::Emit(_)
-            | Statement::Store { .. }
-            | Statement::Call { .. }
-            | Statement::If { .. }
-            | Statement::Block(_)
-            | Statement::Loop { .. }
-            | Statement::Kill
-    )
+        | Statement::Block(_)
+        | Statement::If { .. }
+        | Statement::Loop { .. }
+        | Statement::Kill
+        | Statement::Store { .. }
+        | Statement::Call { .. } => true,
+        Statement::Switch { .. }
+        | Statement::Break
+        | Statement::Continue
+        | Statement::Return { .. }
+        | Statement::ControlBarrier(_)
+        | Statement::MemoryBarrier(_)
+        | Statement::ImageStore { .. }
+        | Statement::Atomic { .. }
+        | Statement::ImageAtomic { .. }
+        | Statement::WorkGroupUniformLoad { .. }
+        | Statement::RayQuery { .. }
+        | Statement::SubgroupBallot { .. }
+        | Statement::SubgroupCollectiveOperation { .. }
+        | Statement::SubgroupGather { .. }
+        | Statement::CooperativeStore { .. }
+        | Statement::RayPipelineFunction(_) => false,
+    }
 }
 
 /// A statement of such a kind itself: its check list, what it puts, which is in scope afterwards, and what it leaves; its
@@ -55,7 +70,7 @@ pub fn validate_frequent(
     state: &mut BodyOutcome,
     context: &BlockContext,
     located: &Located,
-) -> Result<bool, Refused>
+) -> Result<bool, Refused<FunctionError>>
     requires context { ContextFits (context_of context.now) }
     requires statement { IsStatementReady (context_of context.now) (tree_of (context_of context.now) located.now) }
     requires kind { is_frequent located.now.statement ≡ true }
@@ -146,7 +161,7 @@ pub fn check_break_if(
     context: &BlockContext,
     break_if: Option<Handle<tag::Expression>>,
     span: &Span,
-) -> Result<(), Refused>
+) -> Result<(), Refused<FunctionError>>
     ensures fault { Answers (FirstOf (break_if_points (context_of context.now) (place_at (known scope.now))
         break_if)) result }
     ensures refused { RefusesFaultsAlone (break_if_points (context_of context.now) (place_at (known scope.now)) break_if) result }

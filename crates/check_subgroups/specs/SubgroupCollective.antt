@@ -12,12 +12,12 @@ use Rattle.ir_errors.specs.declared.function.SubgroupError.TheVariants as wrong
 use Rattle.naga_runs.specs.Visits.{Place}
 use Rattle.check_scope.specs.Context.{Context}
 use Rattle.check_scope.specs.ScopePoints.{Points, use_point, put_point}
-use Rattle.check_scope.specs.ExpressionTypes.{is_bool_kind, is_integer, type_at}
+use Rattle.check_scope.specs.ExpressionTypes.{is_bool_kind, is_integer_kind, type_at}
 use Rattle.check_subgroups.specs.Subgroup.{subgroup_point, operations_point, subgroups_point, is_number_kind, is_result_of}
 
 -- an integer of 32 bits or more, of either sign
 abbrev pub is_wide_integer : Scalar → Bool
-is_wide_integer s = is_integer (Some s.kind) && nat_le 4 s.width
+is_wide_integer s = is_integer_kind (Some s.kind) && nat_le 4 s.width
 
 -- what an operation combines: All and Any bools; sums, products and extremes numbers; And, Or and Xor wide integers
 abbrev pub is_combined_by : SubgroupOperation → Scalar → Bool

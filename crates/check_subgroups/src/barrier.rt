@@ -8,7 +8,7 @@ ghost use Rattle.check_subgroups.specs.Barrier.{barrier_capabilities, barrier_po
 use crate::subgroup::check_operations;
 use bitflags::Flags;
 use check_scope::refuse::answer;
-use check_scope::refused::Refused;
+use ir_arena::Refused;
 use ir_arena::span::Span;
 use ir_errors::function::FunctionError;
 use ir_facts::valid::settings::Settings;
@@ -23,7 +23,7 @@ pub fn check_barrier(
     settings: &Settings,
     barrier: Barrier,
     span: Span,
-) -> Result<(), Refused>
+) -> Result<(), Refused<FunctionError>>
     ensures fault { Answers (FirstOf (barrier_points settings.now barrier)) result }
     ensures refused { RefusesFaultsAlone (barrier_points settings.now barrier) result }
 {

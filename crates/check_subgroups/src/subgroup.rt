@@ -12,12 +12,11 @@ ghost use Rattle.check_scope.specs.walk.Table.{HasPut, count, known};
 
 use check_scope::context::BlockContext;
 use check_scope::refuse::{answer, check_put, check_use};
-use check_scope::refused::Refused;
 use check_scope::table::ScopeColumn;
 use check_scope::types::{are_same_inners, is_scalar};
 use ir_arena::handle::Handle;
 use ir_arena::span::Span;
-use ir_arena::tag;
+use ir_arena::{Refused, tag};
 use ir_errors::function::{FunctionError, SubgroupError};
 use ir_facts::valid::settings::Settings;
 use ir_flags::capabilities::Capabilities;
@@ -58,7 +57,7 @@ pub fn validate_ballot(
     ballot: Handle<tag::Expression>,
     predicate: &Option<Handle<tag::Expression>>,
     span: Span,
-) -> Result<(), Refused>
+) -> Result<(), Refused<FunctionError>>
     requires { ballot < count scope.old }
     ensures fault { Answers
         (FirstOf (ballot_points (context_of context.now) (place_at (known scope.old)) ballot predicate.now)) result }
@@ -151,12 +150,47 @@ fn combined_type<'a>(
     ensures { option_copied result ≡ combined_type_at (context_of context.now) combined }
 {
     match context.expression(combined) {
+        None => None,
         Some(Expression::SubgroupOperationResult { ty }) => {
             match context.program.types.as_slice().get(ty.index()) {
                 Some(ty) => Some(&ty.inner),
                 None => None,
             }
         }
-        _ => None,
+        Some(
+            Expression::Literal(_)
+            | Expression::Constant(_)
+            | Expression::Override(_)
+            | Expression::ZeroValue(_)
+            | Expression::Compose { .. }
+            | Expression::Access { .. }
+            | Expression::AccessIndex { .. }
+            | Expression::FunctionArgument(_)
+            | Expression::GlobalVariable(_)
+            | Expression::LocalVariable(_)
+            | Expression::Load { .. }
+            | Expression::CallResult(_)
+            | Expression::AtomicResult { .. }
+            | Expression::WorkGroupUniformLoadResult { .. }
+            | Expression::RayQueryProceedResult
+            | Expression::SubgroupBallotResult
+            | Expression::Splat { .. }
+            | Expression::Swizzle { .. }
+            | Expression::ImageSample { .. }
+            | Expression::ImageLoad { .. }
+            | Expression::ImageQuery { .. }
+            | Expression::Unary { .. }
+            | Expression::Binary { .. }
+            | Expression::Select { .. }
+            | Expression::Derivative { .. }
+            | Expression::Relational { .. }
+            | Expression::Math { .. }
+            | Expression::As { .. }
+            | Expression::ArrayLength { .. }
+            | Expression::RayQueryGetIntersection { .. }
+            | Expression::RayQueryVertexPositions { .. }
+            | Expression::CooperativeLoad { .. }
+            | Expression::CooperativeMultiplyAdd { .. },
+        ) => None,
     }
 }

@@ -12,12 +12,11 @@ ghost use Rattle.check_scope.specs.walk.Table.{HasPut, count, known};
 use crate::subgroup::{check_combined, check_operations, check_subgroups, is_number_kind};
 use check_scope::context::BlockContext;
 use check_scope::refuse::{answer, check_use};
-use check_scope::refused::Refused;
 use check_scope::table::ScopeColumn;
-use check_scope::types::is_integer;
+use check_scope::types::is_integer_kind;
 use ir_arena::handle::Handle;
 use ir_arena::span::Span;
-use ir_arena::tag;
+use ir_arena::{Refused, tag};
 use ir_errors::function::{FunctionError, SubgroupError};
 use ir_leaves::scalars::{Scalar, ScalarKind};
 use ir_statements::operations::{CollectiveOperation, SubgroupOperation};
@@ -38,7 +37,7 @@ pub fn validate_collective(
     context: &BlockContext,
     collective: &Collective,
     span: Span,
-) -> Result<(), Refused>
+) -> Result<(), Refused<FunctionError>>
     requires { collective.now.combined < count scope.old }
     ensures fault { Answers
         (FirstOf (collective_points (context_of context.now) (place_at (known scope.old)) collective.now.operation
@@ -126,7 +125,7 @@ fn is_combined_by(operation: SubgroupOperation, scalar: Scalar) -> bool
 fn is_wide_integer(scalar: Scalar) -> bool
     ensures { result ≡ is_wide_integer scalar }
 {
-    is_integer(Some(scalar.kind)) && scalar.width >= 4
+    is_integer_kind(Some(scalar.kind)) && scalar.width >= 4
 }
 
 /// Whether an operation is done over such a part of the invocations.

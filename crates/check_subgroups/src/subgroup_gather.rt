@@ -13,12 +13,11 @@ ghost use Rattle.check_scope.specs.walk.Table.{HasPut, count, known};
 use crate::subgroup::{check_combined, check_operations, check_subgroups, is_number_kind};
 use check_scope::context::BlockContext;
 use check_scope::refuse::{answer, check_use};
-use check_scope::refused::Refused;
 use check_scope::table::ScopeColumn;
 use check_scope::types::is_scalar;
 use ir_arena::handle::Handle;
 use ir_arena::span::Span;
-use ir_arena::tag;
+use ir_arena::{Refused, tag};
 use ir_errors::function::{FunctionError, SubgroupError};
 use ir_leaves::scalars::Scalar;
 use ir_statements::operations::GatherMode;
@@ -32,7 +31,7 @@ pub fn validate_gather(
     argument: Handle<tag::Expression>,
     gathered: Handle<tag::Expression>,
     span: Span,
-) -> Result<(), Refused>
+) -> Result<(), Refused<FunctionError>>
     requires { gathered < count scope.old }
     ensures fault { Answers
         (FirstOf (gather_points (context_of context.now) (place_at (known scope.old)) mode.now argument gathered))

@@ -147,5 +147,13 @@ is_storage space.IncomingRayPayload = false
 
 -- the space of task payloads
 abbrev pub is_task_payload : AddressSpace → Bool
+is_task_payload space.Function = false
+is_task_payload space.Private = false
+is_task_payload space.WorkGroup = false
+is_task_payload space.Uniform = false
+is_task_payload (space.Storage access) = false
+is_task_payload space.Handle = false
+is_task_payload space.Immediate = false
 is_task_payload space.TaskPayload = true
-is_task_payload _ = false
+is_task_payload space.RayPayload = false
+is_task_payload space.IncomingRayPayload = false

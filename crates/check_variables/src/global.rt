@@ -1,11 +1,10 @@
 //! The check of a global variable: naga 30.0.1's `validate_global_var`.
 
 ghost use Rattle.std.specs.Prelude.{◌≡◌, ◌<◌, IfOk, IfSome, Some, All, length, slice_get};
-ghost use Rattle.std.specs.Result.{result_err};
-ghost use Rattle.ir_arena.specs.Points.{first_fault};
 ghost use Rattle.ir_types.specs.Types.{NameEachOther, ResolutionFits, inner_at};
 ghost use Rattle.check_variables.specs.Globals.{global_points, array_points, element_of, asked_type, capability_points, good_layout_points, immediate_points, resource_points, place_points, space_points, type_points, decoration_points, variable_points, global_initializer_points};
-ghost use Rattle.check_variables.specs.Spaces.{row_of, resource_array_needs, is_16bit_norm, is_storage, takes_initializers};
+ghost use Rattle.check_variables.specs.Spaces.{row_of, resource_array_needs, is_16bit_norm, is_storage, is_task_payload, takes_initializers};
+ghost use Rattle.ir_facts.specs.Answers.{Finds, FirstOf};
 
 use bitflags::Flags;
 use ir_arena::handle::Handle;
@@ -66,8 +65,7 @@ pub fn check_global(
     requires one_type_each { length global_types.now ≡ length kinds.now }
     requires types { NameEachOther types.now }
     requires resolved { All (ResolutionFits (length types.now)) global_types.now }
-    ensures { result_err result
-        ≡ first_fault (global_points types.now infos.now flags capabilities size kinds.now global_types.now var.now) }
+    ensures { Finds (FirstOf (global_points types.now infos.now flags capabilities size kinds.now global_types.now var.now)) result }
 {
     let context = TypeContext {
         types,
@@ -94,8 +92,8 @@ fn check_type(
     requires one_info_each { length context.now.infos.now ≡ length context.now.types.now }
     requires ty { ty < length context.now.types.now }
     requires types { NameEachOther context.now.types.now }
-    ensures { result_err result ≡ first_fault (type_points context.now.types.now context.now.infos.now
-        context.now.flags context.now.capabilities space ty) }
+    ensures { Finds (FirstOf (type_points context.now.types.now context.now.infos.now
+        context.now.flags context.now.capabilities space ty)) result }
 {
     let asked = check_array(space, ty, context.types, context.capabilities)?;
     check_asked(context, space, asked)
@@ -106,7 +104,7 @@ fn check_capability(
     capabilities: Capabilities,
     needed: Option<Capabilities>,
 ) -> Result<(), GlobalVariableError>
-    ensures { result_err result ≡ first_fault (capability_points capabilities needed) }
+    ensures { Finds (FirstOf (capability_points capabilities needed)) result }
 {
     match needed {
         Some(needed) if !capabilities.contains(needed) => {
@@ -126,8 +124,7 @@ fn check_array(
 ) -> Result<Handle<tag::Type>, GlobalVariableError>
     requires ty { ty < length types.now }
     requires types { NameEachOther types.now }
-    ensures fault { result_err result
-        ≡ first_fault (array_points capabilities types.now space (element_of (inner_at types.now ty))) }
+    ensures fault { Finds (FirstOf (array_points capabilities types.now space (element_of (inner_at types.now ty)))) result }
     ensures asked { IfOk result (λ asked. asked ≡ asked_type types.now ty) }
     ensures there { IfOk result (λ asked. asked < length types.now) }
 {
@@ -188,8 +185,8 @@ fn check_asked(
 ) -> Result<(), GlobalVariableError>
     requires one_info_each { length context.now.infos.now ≡ length context.now.types.now }
     requires ty { ty < length context.now.types.now }
-    ensures { result_err result ≡ first_fault (space_points context.now.flags context.now.capabilities space
-        (inner_at context.now.types.now ty) (slice_get context.now.infos.now ty)) }
+    ensures { Finds (FirstOf (space_points context.now.flags context.now.capabilities space
+        (inner_at context.now.types.now ty) (slice_get context.now.infos.now ty))) result }
 {
     let (inner, info) = (&context.types[ty].inner, &context.infos[ty.index()]);
     check_in_space(space, inner, info, context.flags, context.capabilities)
@@ -204,7 +201,7 @@ fn check_in_space(
     flags: ValidationFlags,
     capabilities: Capabilities,
 ) -> Result<(), GlobalVariableError>
-    ensures { result_err result ≡ first_fault (space_points flags capabilities space (Some inner.now) (Some info.now)) }
+    ensures { Finds (FirstOf (space_points flags capabilities space (Some inner.now) (Some info.now))) result }
 {
     check_space(space, inner, info, flags, capabilities)?;
     let required = required_flags(space);
@@ -223,7 +220,7 @@ fn check_space(
     flags: ValidationFlags,
     capabilities: Capabilities,
 ) -> Result<(), GlobalVariableError>
-    ensures { result_err result ≡ first_fault (place_points flags capabilities space (Some inner.now) (Some info.now)) }
+    ensures { Finds (FirstOf (place_points flags capabilities space (Some inner.now) (Some info.now))) result }
 {
     match space {
         AddressSpace::Function => Err(GlobalVariableError::InvalidUsage(space)),
@@ -256,7 +253,7 @@ fn check_layout(
     layout: Result<u32, (Handle<tag::Type>, Disalignment)>,
     flags: ValidationFlags,
 ) -> Result<(), GlobalVariableError>
-    ensures { result_err result ≡ first_fault (good_layout_points flags space layout) }
+    ensures { Finds (FirstOf (good_layout_points flags space layout)) result }
 {
     match layout {
         Err((ty, disalignment)) if flags.contains(ValidationFlags::STRUCT_LAYOUTS) => {
@@ -268,7 +265,7 @@ fn check_layout(
 
 /// A resource: an image, a sampler, an acceleration structure or a ray query, and the format of a storage image.
 fn check_resource(inner: &TypeInner, capabilities: Capabilities) -> Result<(), GlobalVariableError>
-    ensures { result_err result ≡ first_fault (resource_points capabilities (Some inner.now)) }
+    ensures { Finds (FirstOf (resource_points capabilities (Some inner.now))) result }
 {
     match inner {
         TypeInner::Image {
@@ -314,7 +311,7 @@ fn is_16bit_norm(format: StorageFormat) -> bool
 
 /// Whether a type can be an immediate.
 fn check_immediate(compatibility: Result<(), ImmediateError>) -> Result<(), GlobalVariableError>
-    ensures { result_err result ≡ first_fault (immediate_points compatibility) }
+    ensures { Finds (FirstOf (immediate_points compatibility)) result }
 {
     match compatibility {
         Ok(()) => Ok(()),
@@ -372,14 +369,14 @@ fn check_variable(
     capabilities: Capabilities,
     size: Option<u32>,
 ) -> Result<(), GlobalVariableError>
-    ensures { result_err result ≡ first_fault (variable_points flags capabilities size var.now) }
+    ensures { Finds (FirstOf (variable_points flags capabilities size var.now)) result }
 {
     if flags.contains(ValidationFlags::BINDINGS)
         && is_resource_space(var.space) != var.binding.is_some()
     {
         return Err(GlobalVariableError::InvalidBinding);
     }
-    if var.space == AddressSpace::TaskPayload && size == Some(0) {
+    if is_task_payload(var.space) && size == Some(0) {
         return Err(GlobalVariableError::ZeroSizedTaskPayload);
     }
     check_decorations(var.space, var.memory_decorations, capabilities)
@@ -391,7 +388,7 @@ fn check_decorations(
     decorations: MemoryDecorations,
     capabilities: Capabilities,
 ) -> Result<(), GlobalVariableError>
-    ensures { result_err result ≡ first_fault (decoration_points capabilities space decorations) }
+    ensures { Finds (FirstOf (decoration_points capabilities space decorations)) result }
 {
     if !decorations.is_empty() && !is_storage(space) {
         return Err(GlobalVariableError::InvalidMemoryDecorationsAddressSpace);
@@ -427,6 +424,24 @@ fn is_storage(space: AddressSpace) -> bool
     }
 }
 
+/// Whether a space is that of task payloads.
+fn is_task_payload(space: AddressSpace) -> bool
+    ensures { result ≡ is_task_payload space }
+{
+    match space {
+        AddressSpace::TaskPayload => true,
+        AddressSpace::Function
+        | AddressSpace::Private
+        | AddressSpace::WorkGroup
+        | AddressSpace::Uniform
+        | AddressSpace::Storage { .. }
+        | AddressSpace::Handle
+        | AddressSpace::Immediate
+        | AddressSpace::RayPayload
+        | AddressSpace::IncomingRayPayload => false,
+    }
+}
+
 /// An initializer: the space of the variable takes one, its value is known before the pipeline runs, and it has the
 /// variable's type.
 fn check_initializer(
@@ -441,8 +456,7 @@ fn check_initializer(
     requires one_type_each { length global_types.now ≡ length kinds.now }
     requires types { NameEachOther types.now }
     requires resolved { All (ResolutionFits (length types.now)) global_types.now }
-    ensures { result_err result
-        ≡ first_fault (global_initializer_points types.now kinds.now global_types.now var.now.space var.now.ty (Some init)) }
+    ensures { Finds (FirstOf (global_initializer_points types.now kinds.now global_types.now var.now.space var.now.ty (Some init))) result }
 {
     if !takes_initializers(var.space) {
         return Err(GlobalVariableError::InitializerNotAllowed(var.space));

@@ -1,10 +1,9 @@
 //! The check of a local variable: naga 30.0.1's `validate_local_var`.
 
 ghost use Rattle.std.specs.Prelude.{◌≡◌, ◌<◌, IfSome, Some, All, length};
-ghost use Rattle.std.specs.Result.{result_err};
-ghost use Rattle.ir_arena.specs.Points.{first_fault};
 ghost use Rattle.ir_types.specs.Types.{NameEachOther, ResolutionFits};
 ghost use Rattle.check_variables.specs.Locals.{local_points, initializer_points};
+ghost use Rattle.ir_facts.specs.Answers.{Finds, FirstOf};
 
 use ir_arena::handle::Handle;
 use ir_arena::tag;
@@ -39,7 +38,7 @@ pub fn check_local(
     requires one_type_each { length fun_info.now.expression_types ≡ length kinds.now }
     requires types { NameEachOther types.now }
     requires resolved { All (ResolutionFits (length types.now)) fun_info.now.expression_types }
-    ensures { result_err result ≡ first_fault (local_points types.now infos.now fun_info.now.expression_types kinds.now var.now) }
+    ensures { Finds (FirstOf (local_points types.now infos.now fun_info.now.expression_types kinds.now var.now)) result }
 {
     if !infos[var.ty.index()]
         .flags
@@ -66,8 +65,7 @@ fn check_initializer(
     requires one_type_each { length fun_info.now.expression_types ≡ length kinds.now }
     requires types { NameEachOther types.now }
     requires resolved { All (ResolutionFits (length types.now)) fun_info.now.expression_types }
-    ensures { result_err result
-        ≡ first_fault (initializer_points types.now fun_info.now.expression_types kinds.now declared (Some init)) }
+    ensures { Finds (FirstOf (initializer_points types.now fun_info.now.expression_types kinds.now declared (Some init))) result }
 {
     let given = &fun_info.expression_types[init.index()];
     if !compare_types(&TypeResolution::Handle(declared), given, types) {

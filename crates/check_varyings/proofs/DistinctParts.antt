@@ -19,12 +19,12 @@ use Rattle.ir_types.specs.declared.types.Type.{«Type» as IrType}
 use Rattle.ir_types.specs.declared.types.TypeInner.{TypeInner}
 use Rattle.ir_types.specs.declared.type_info.TypeInfo.{TypeInfo}
 use Rattle.check_varyings.specs.BuiltIns.{built_in_rule, canonical, is_primitive_output, is_stage}
-use Rattle.check_varyings.specs.DistinctVaryings.{AcceptedBuiltInsAreDistinct, AcceptedLocationsAreDistinct}
+use Rattle.check_varyings.specs.DistinctVaryings.{AcceptedHasNoBuiltInTwice, AcceptedHasNoLocationTwice}
 use Rattle.check_varyings.specs.Locations.{carried_type, interpolation_points, is_fragment_input, may_take, per_vertex_points, sharing_points}
 use Rattle.ir_facts.specs.WhatIsChecked.{checks_bindings}
 use Rattle.check_varyings.specs.Seen.{Seen}
 use Rattle.check_varyings.specs.VaryingFaults.{InvalidAttribute, InvalidInputAttribute, Itself, VaryingFault}
-use Rattle.check_varyings.specs.Varyings.{Part, Bound, UnboundMember, Unbound, BlendSources, Placed, bound_points, built_in_points, has_built_in_type, has_one_dimension, has_required, is_at, is_built_in, is_of_one_dimension, part_points, placed_points, seen_at}
+use Rattle.check_varyings.specs.Varyings.{VaryingPart, Bound, UnboundMember, Unbound, BlendSources, Placed, bound_points, built_in_points, has_built_in_type, has_one_dimension, has_required, is_at, is_built_in, is_of_one_dimension, part_points, placed_points, seen_at}
 use Rattle.ir_errors.specs.declared.interface.VaryingError.{VaryingError}
 use Rattle.check_varyings.specs.declared.varying.VaryingPlace.{VaryingPlace}
 
@@ -44,7 +44,7 @@ taken_free true taken c e = not_holds taken e
 taken_free false taken c e = cc
 
 -- a location that is looked at wasn't taken
-location_free : (place : VaryingPlace) (types : List IrType) (infos : List TypeInfo) (seen : Seen) (part : Part) (l : ℕ) →
+location_free : (place : VaryingPlace) (types : List IrType) (infos : List TypeInfo) (seen : Seen) (part : VaryingPart) (l : ℕ) →
     checks_bindings place.flags ≡ true → is_at l part ≡ true → first_fault (part_points place types infos seen part) ≡ None → seen.locations l ≡ false
 location_free place types infos seen (Bound ty (binding.BuiltIn b)) l checks is e = cc
 location_free place types infos seen (Bound ty (binding.Location k i s blend_src per_primitive)) l checks is e =
@@ -90,7 +90,7 @@ built_in_free place types seen (Some i) b e =
     not_holds _ (first_holds (not (seen.built_ins (canonical b))) (DuplicateBuiltIn b) behind e).0
 
 -- a built-in wasn't there
-built_in_new : (place : VaryingPlace) (types : List IrType) (infos : List TypeInfo) (seen : Seen) (part : Part) (b : BuiltIn) →
+built_in_new : (place : VaryingPlace) (types : List IrType) (infos : List TypeInfo) (seen : Seen) (part : VaryingPart) (b : BuiltIn) →
     is_built_in b part ≡ true → first_fault (part_points place types infos seen part) ≡ None → seen.built_ins b ≡ false
 built_in_new place types infos seen (Bound ty (binding.BuiltIn g)) b is e =
     ap seen.built_ins (built_in_same b (canonical g) is)
@@ -116,10 +116,10 @@ module _ (types : List IrType) (infos : List TypeInfo) where
       let all = sym (ap first_fault (placed_points-append [] before (p ∷ behind))) ∙ sym split ∙ e in
       (both_hold (part_points p.place types infos (seen_at p.place before) p.part) _ (both_hold (placed_points types infos [] before) (placed_points types infos before (p ∷ behind)) all).1).0
 
-pub locations_distinct : AcceptedLocationsAreDistinct
+pub locations_distinct : AcceptedHasNoLocationTwice
 locations_distinct types infos parts e before behind p l is checks at =
     location_free p.place types infos (seen_at p.place before) p.part l checks at (none_at types infos before behind p parts is e)
 
-pub built_ins_distinct : AcceptedBuiltInsAreDistinct
+pub built_ins_distinct : AcceptedHasNoBuiltInTwice
 built_ins_distinct types infos parts e before behind p b is to =
     built_in_new p.place types infos (seen_at p.place before) p.part b to (none_at types infos before behind p parts is e)

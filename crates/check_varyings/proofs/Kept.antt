@@ -14,7 +14,7 @@ use Rattle.check_varyings.specs.BuiltInNumbers.{number_of}
 use Rattle.check_varyings.specs.CodeVaryings.{far_less, far_location, location_of, seen_more, with_location}
 use Rattle.check_varyings.specs.Seen.{Seen}
 use Rattle.check_varyings.specs.SmallSets.{has_number}
-use Rattle.check_varyings.specs.Varyings.{Part, Bound, is_at, is_built_in, nothing_seen, seen_by, seen_with, without_built_ins}
+use Rattle.check_varyings.specs.Varyings.{VaryingPart, Bound, is_at, is_built_in, nothing_seen, seen_by, seen_with, without_built_ins}
 use Rattle.check_varyings.specs.declared.small_set.SmallSet.{SmallSet}
 use Rattle.check_varyings.specs.declared.varying.Near.{Near}
 use Rattle.check_varyings.proofs.BuiltInNumbers.{same_number}
@@ -111,7 +111,7 @@ less_bool false y z = refl
 pub seen_with_none : (s : Seen) → seen_with s [] ≡ s
 seen_with_none s = seen_same _ _ (λ l. or_false _) (λ b. or_false _)
 
-pub seen_with-append : (s : Seen) (ps qs : List Part) → seen_with (seen_with s ps) qs ≡ seen_with s (ps ++ qs)
+pub seen_with-append : (s : Seen) (ps qs : List VaryingPart) → seen_with (seen_with s ps) qs ≡ seen_with s (ps ++ qs)
 seen_with-append s ps qs =
     seen_same _ _
     (λ l. or_assoc (s.locations l) _ _ ∙ ap (λ b. s.locations l || b) (sym (list_any-append (is_at l) ps qs)))

@@ -12,7 +12,7 @@ use Rattle.ir_arena.specs.declared.span.Refusal.TheVariants.{Fault, Memory}
 use Rattle.ir_types.specs.declared.type_info.TypeInfo.{TypeInfo}
 use Rattle.check_varyings.specs.Seen.{Seen}
 use Rattle.check_varyings.specs.VaryingFaults.{VaryingFault, varying_fault_of}
-use Rattle.check_varyings.specs.Varyings.{Part, member_part, member_parts, part_points, points_behind, seen_with}
+use Rattle.check_varyings.specs.Varyings.{VaryingPart, member_part, member_parts, part_points, points_behind, seen_with}
 use Rattle.ir_errors.specs.declared.interface.VaryingError.{VaryingError}
 use Rattle.check_varyings.specs.declared.varying.VaryingPlace.{VaryingPlace}
 use Rattle.check_varyings.proofs.Kept.{seen_with-append, seen_with_none}
@@ -75,6 +75,6 @@ pub passed_at : (ps : List (Point VaryingFault)) (whole o : Option VaryingFault)
 passed_at ps whole o e h = sym (e ∙ ap (λ z. option_or z o) h)
 
 -- of one part alone
-pub one_part : (place : VaryingPlace) (types : List IrType) (infos : List TypeInfo) (s : Seen) (p : Part) →
+pub one_part : (place : VaryingPlace) (types : List IrType) (infos : List TypeInfo) (s : Seen) (p : VaryingPart) →
     points_behind place types infos s [] (p ∷ []) ≡ part_points place types infos s p
 one_part place types infos s p = append-nil (part_points place types infos (seen_with s []) p) ∙ ap (λ z. part_points place types infos z p) (seen_with_none s)

@@ -7,7 +7,7 @@ use Rattle.ir_leaves.specs.declared.built_in.BuiltIn.{BuiltIn}
 use Rattle.ir_types.specs.declared.types.Type.{«Type» as IrType}
 use Rattle.ir_types.specs.declared.type_info.TypeInfo.{TypeInfo}
 use Rattle.check_varyings.specs.Seen.{Seen}
-use Rattle.check_varyings.specs.Varyings.{Part, Placed, is_at, is_built_in, go_same_way, is_same_bool, seen_at, placed, placed_points, part_points, parts_of, points_behind, PointsAreByPosition, LeavesTheNext, SeesLocationsAlone}
+use Rattle.check_varyings.specs.Varyings.{VaryingPart, Placed, is_at, is_built_in, go_same_way, is_same_bool, seen_at, placed, placed_points, part_points, parts_of, points_behind, PointsAreByPosition, LeavesTheNext, SeesLocationsAlone}
 use Rattle.check_varyings.specs.contracts.varying.MeshOutputTypePartialEq.TheImpl as mesh_output
 use Rattle.check_varyings.specs.declared.varying.MeshOutputType.{MeshOutputType}
 use Rattle.check_varyings.specs.declared.varying.MeshOutputType.TheVariants.{Neither, VertexOutput, PrimitiveOutput}
@@ -17,12 +17,12 @@ use Rattle.check_varyings.specs.declared.varying.VaryingPlace.{VaryingPlace}
 pub seen_same : (s t : Seen) → ((l : ℕ) → s.locations l ≡ t.locations l) → ((b : BuiltIn) → s.built_ins b ≡ t.built_ins b) → s ≡ t
 seen_same s t p q = λ i. record { locations = λ l. p l i; built_ins = λ b. q b i }
 
-any_placed : (test : Part → Bool) (place : VaryingPlace) (parts : List Part) →
+any_placed : (test : VaryingPart → Bool) (place : VaryingPlace) (parts : List VaryingPart) →
     list_any (λ p. test p.part) (placed place parts) ≡ list_any test parts
 any_placed test place [] = refl
 any_placed test place (p ∷ ps) = ap (λ b. test p || b) (any_placed test place ps)
 
-any_going : (way : Bool) (test : Part → Bool) (place other : VaryingPlace) (parts : List Part) → go_same_way place other ≡ way →
+any_going : (way : Bool) (test : VaryingPart → Bool) (place other : VaryingPlace) (parts : List VaryingPart) → go_same_way place other ≡ way →
     list_any (λ p. go_same_way place p.place && test p.part) (placed other parts) ≡ (way && list_any test parts)
 any_going true test place other [] e = refl
 any_going true test place other (p ∷ ps) e =
@@ -59,14 +59,14 @@ pub sees_locations_alone : SeesLocationsAlone
 sees_locations_alone place other parts e = seen_same _ _ (λ l. refl) (λ b. any_going false (is_built_in b) place other parts e)
 
 -- the same parts, one moved from behind to before
-moved : (place : VaryingPlace) (earlier : List Placed) (done : List Part) (p : Part) →
+moved : (place : VaryingPlace) (earlier : List Placed) (done : List VaryingPart) (p : VaryingPart) →
     earlier ++ placed place (done ++ p ∷ []) ≡ (earlier ++ placed place done) ++ (record { place = place; part = p } ∷ [])
 moved place earlier done p =
     ap (λ l. earlier ++ l) (map-append (λ part. let made : Placed = record { place = place; part = part } in made) done (p ∷ []))
     ∙ sym (append_assoc earlier (placed place done) (record { place = place; part = p } ∷ []))
 
 module _ (place : VaryingPlace) (types : List IrType) (infos : List TypeInfo) (earlier : List Placed) where
-  points_by_position : (done parts : List Part) →
+  points_by_position : (done parts : List VaryingPart) →
       points_behind place types infos (seen_at place earlier) done parts ≡ placed_points types infos (earlier ++ placed place done) (placed place parts)
   points_by_position done [] = refl
   points_by_position done (p ∷ ps) =

@@ -56,32 +56,32 @@ use Rattle.check_varyings.specs.declared.rule.BuiltInType.TheVariants as built_i
 use Rattle.check_varyings.specs.contracts.varying.MeshOutputTypePartialEq.TheImpl as mesh_output
 
 -- what a part of an item is
-pub data Part : Type 0 where
+pub data VaryingPart : Type 0 where
   -- a type with its binding: an item, or a member of a struct
-  Bound : (ty : ℕ) (given : Binding) → Part
+  Bound : (ty : ℕ) (given : Binding) → VaryingPart
   -- a member of a struct, with its index, and an item that is no struct, both without binding
-  UnboundMember : (index : ℕ) → Part
-  Unbound : Part
+  UnboundMember : (index : ℕ) → VaryingPart
+  Unbound : VaryingPart
   -- a struct without binding that is shared between stages: the two sources of a blend
-  BlendSources : Part
+  BlendSources : VaryingPart
 
 -- a member of a struct, with its index
-abbrev pub member_part : ℕ → ℕ → Option Binding → Part
+abbrev pub member_part : ℕ → ℕ → Option Binding → VaryingPart
 member_part index ty None = UnboundMember index
 member_part index ty (Some given) = Bound ty given
 
 -- members, the first of which has this index
-abbrev pub member_parts : ℕ → List StructMember → List Part
+abbrev pub member_parts : ℕ → List StructMember → List VaryingPart
 member_parts index [] = []
 member_parts index (m ∷ ms) = member_part index m.ty m.binding ∷ member_parts (suc index) ms
 
 -- the parts of an item without binding, by whether its type is shared between stages: of a struct that isn't its members
-abbrev pub unbound_parts : Bool → Option TypeInner → List Part
+abbrev pub unbound_parts : Bool → Option TypeInner → List VaryingPart
 unbound_parts shareable (Some (inner.Struct members span)) = if shareable then BlendSources ∷ [] else member_parts 0 members
 unbound_parts shareable _ = Unbound ∷ []
 
 -- the parts of an item
-abbrev pub parts_of : List IrType → List TypeInfo → ℕ → Option Binding → List Part
+abbrev pub parts_of : List IrType → List TypeInfo → ℕ → Option Binding → List VaryingPart
 parts_of types infos ty (Some given) = Bound ty given ∷ []
 parts_of types infos ty None = unbound_parts (type_has infos ty IO_SHAREABLE) (inner_at types ty)
 
@@ -96,13 +96,13 @@ is_bound_to b (binding.BuiltIn given) = is_same_built_in b (canonical given)
 is_bound_to b (binding.Location l interpolation sampling blend_src per_primitive) = false
 
 -- a part has this location
-abbrev pub is_at : ℕ → Part → Bool
+abbrev pub is_at : ℕ → VaryingPart → Bool
 is_at location (Bound ty given) = is_bound_at location given
 is_at location BlendSources = location == 0
 is_at location _ = false
 
 -- a part is this built-in
-abbrev pub is_built_in : BuiltIn → Part → Bool
+abbrev pub is_built_in : BuiltIn → VaryingPart → Bool
 is_built_in b (Bound ty given) = is_bound_to b given
 is_built_in b _ = false
 
@@ -163,7 +163,7 @@ blend_points place seen =
     ∷ []
 
 -- a part, where this was seen before
-abbrev pub part_points : VaryingPlace → List IrType → List TypeInfo → Seen → Part → List (Point VaryingFault)
+abbrev pub part_points : VaryingPlace → List IrType → List TypeInfo → Seen → VaryingPart → List (Point VaryingFault)
 part_points place types infos seen (Bound ty given) = within Itself (bound_points place types infos seen ty given)
 part_points place types infos seen (UnboundMember index) =
     (not (checks_bindings place.flags), Itself (MemberMissingBinding index)) ∷ []
@@ -180,7 +180,7 @@ pub record Item : Type 0 where
 
 pub record Placed : Type 0 where
   pub place : VaryingPlace
-  pub part : Part
+  pub part : VaryingPart
 
 -- both true, or both false
 abbrev pub is_same_bool : Bool → Bool → Bool
@@ -200,7 +200,7 @@ seen_at place earlier =
     }
 
 -- these parts, at this place
-abbrev pub placed : VaryingPlace → List Part → List Placed
+abbrev pub placed : VaryingPlace → List VaryingPart → List Placed
 placed place parts = map (λ part. record { place = place; part = part }) parts
 
 module _ (types : List IrType) (infos : List TypeInfo) where
@@ -256,7 +256,7 @@ abbrev pub seen_in : VaryingState → Seen
 seen_in state = seen_by state.near (far_in state)
 
 -- what was seen, and parts behind it
-abbrev pub seen_with : Seen → List Part → Seen
+abbrev pub seen_with : Seen → List VaryingPart → Seen
 seen_with seen parts =
     record {
       locations = λ location. seen.locations location || list_any (is_at location) parts;
@@ -269,7 +269,7 @@ without_built_ins seen = record { locations = seen.locations; built_ins = λ b. 
 
 module _ (place : VaryingPlace) (types : List IrType) (infos : List TypeInfo) where
   -- the points of parts behind others, where this was seen before
-  abbrev pub points_behind : Seen → List Part → List Part → List (Point VaryingFault)
+  abbrev pub points_behind : Seen → List VaryingPart → List VaryingPart → List (Point VaryingFault)
   points_behind seen earlier [] = []
   points_behind seen earlier (p ∷ ps) =
       part_points place types infos (seen_with seen earlier) p ++ points_behind seen (earlier ++ p ∷ []) ps
@@ -293,11 +293,11 @@ PointsAreByPosition =
 -- what is left behind an item is what is seen by position behind its parts, at each place that goes its way
 abbrev pub LeavesTheNext : Type 0
 LeavesTheNext =
-    (place : VaryingPlace) (earlier : List Placed) (parts : List Part) →
+    (place : VaryingPlace) (earlier : List Placed) (parts : List VaryingPart) →
     seen_with (seen_at place earlier) parts ≡ seen_at place (earlier ++ placed place parts)
 
 -- where these parts go another way, their locations alone are seen
 abbrev pub SeesLocationsAlone : Type 0
 SeesLocationsAlone =
-    (place other : VaryingPlace) (parts : List Part) → go_same_way place other ≡ false →
+    (place other : VaryingPlace) (parts : List VaryingPart) → go_same_way place other ≡ false →
     seen_at place (placed other parts) ≡ without_built_ins (seen_at other (placed other parts))

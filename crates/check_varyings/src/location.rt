@@ -1,11 +1,10 @@
 //! The check list of a location.
 
 ghost use Rattle.std.specs.Prelude.{◌≡◌, ◌<◌, ◌||◌, ◌++◌, Some, length};
-ghost use Rattle.std.specs.Result.{result_err};
-ghost use Rattle.ir_arena.specs.Points.{first_fault};
 ghost use Rattle.ir_types.specs.Types.{NameEachOther};
 ghost use Rattle.check_varyings.specs.Locations.{carried_type, go_together, interpolation_points, is_array_of_three, is_fragment_input, is_interpolated, kind_points, location_points, may_take, per_vertex_points, sharing_points};
 ghost use Rattle.check_varyings.specs.Varyings.{seen_in};
+ghost use Rattle.ir_facts.specs.Answers.{Finds, FirstOf};
 
 use crate::built_in::has_mesh_shader;
 use crate::context::VaryingContext;
@@ -41,8 +40,8 @@ pub(crate) fn check_location(
     requires ty { ty < length context.now.types.now }
     requires infos { length context.now.infos.now ≡ length context.now.types.now }
     requires types { NameEachOther context.now.types.now }
-    ensures { result_err result ≡ first_fault (location_points context.now.place.now context.now.types.now context.now.infos.now
-        (seen_in state.now) ty at.location at.interpolation at.sampling at.blend_src at.per_primitive) }
+    ensures { Finds (FirstOf (location_points context.now.place.now context.now.types.now context.now.infos.now
+        (seen_in state.now) ty at.location at.interpolation at.sampling at.blend_src at.per_primitive)) result }
 {
     if !has_mesh_shader(context.place, at.per_primitive) {
         return Err(VaryingError::UnsupportedCapability(Capabilities::MESH_SHADER));
@@ -66,8 +65,7 @@ fn check_per_vertex(
 ) -> Result<(), VaryingError>
     requires ty { ty < length context.now.types.now }
     requires types { NameEachOther context.now.types.now }
-    ensures { result_err result
-        ≡ first_fault (per_vertex_points context.now.place.now context.now.types.now ty interpolation sampling) }
+    ensures { Finds (FirstOf (per_vertex_points context.now.place.now context.now.types.now ty interpolation sampling)) result }
 {
     let place = context.place;
     if interpolation != Some(Interpolation::PerVertex) {
@@ -135,10 +133,10 @@ fn check_carried(
     requires ty { ty < length context.now.types.now }
     requires infos { length context.now.infos.now ≡ length context.now.types.now }
     requires types { NameEachOther context.now.types.now }
-    ensures { result_err result ≡ first_fault (
+    ensures { Finds (FirstOf (
         sharing_points context.now.place.now context.now.infos.now (seen_in state.now) ty at.location at.blend_src
         at.per_primitive
-        ++ interpolation_points context.now.place.now context.now.types.now ty at.interpolation at.sampling at.per_primitive) }
+        ++ interpolation_points context.now.place.now context.now.types.now ty at.interpolation at.sampling at.per_primitive)) result }
 {
     check_sharing(context, state, ty, at)?;
     check_interpolation(context, ty, at)
@@ -153,9 +151,8 @@ fn check_sharing(
 ) -> Result<(), VaryingError>
     requires ty { ty < length context.now.types.now }
     requires infos { length context.now.infos.now ≡ length context.now.types.now }
-    ensures { result_err result ≡ first_fault
-        (sharing_points context.now.place.now context.now.infos.now (seen_in state.now) ty at.location at.blend_src
-        at.per_primitive) }
+    ensures { Finds (FirstOf (sharing_points context.now.place.now context.now.infos.now (seen_in state.now) ty at.location at.blend_src
+        at.per_primitive)) result }
 {
     let place = context.place;
     if !context.is_shareable(ty) {
@@ -201,8 +198,7 @@ fn check_interpolation(
 ) -> Result<(), VaryingError>
     requires ty { ty < length context.now.types.now }
     requires types { NameEachOther context.now.types.now }
-    ensures { result_err result ≡ first_fault
-        (interpolation_points context.now.place.now context.now.types.now ty at.interpolation at.sampling at.per_primitive) }
+    ensures { Finds (FirstOf (interpolation_points context.now.place.now context.now.types.now ty at.interpolation at.sampling at.per_primitive)) result }
 {
     let place = context.place;
     if let (Some(interpolation), Some(sampling)) = (at.interpolation, at.sampling)
@@ -272,7 +268,7 @@ fn check_kind(
     ty: Handle<tag::Type>,
     kind: Option<ScalarKind>,
 ) -> Result<(), VaryingError>
-    ensures { result_err result ≡ first_fault (kind_points interpolated interpolation ty kind) }
+    ensures { Finds (FirstOf (kind_points interpolated interpolation ty kind)) result }
 {
     match kind {
         Some(ScalarKind::Float) => {

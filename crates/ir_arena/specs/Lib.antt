@@ -1,4 +1,5 @@
 pub mod Limits
 pub mod Points
-pub mod Positions
+pub mod Refusals
+pub mod LastPlaces
 pub mod formers

@@ -3,7 +3,7 @@
 ghost use Rattle.std.specs.Prelude.{◌≡◌, ◌<◌, ◌++◌, ◌∷◌, [], ℕ, Some, OnOk, OnErr, length, nat_eq, slice_get};
 ghost use Rattle.std.specs.HashMap.{get};
 ghost use Rattle.ir_arena.specs.Limits.{max_len};
-ghost use Rattle.ir_arena.specs.Positions.{AreLinked, IsLastBefore};
+ghost use Rattle.ir_arena.specs.LastPlaces.{AreLinked, IsLastBefore};
 
 use std::alloc::{AllocError, Global};
 use std::collections::HashMap;

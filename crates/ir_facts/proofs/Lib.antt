@@ -1,3 +1,4 @@
 pub mod Callers
 pub mod Each
 pub mod OtherOperands
+pub mod Refusals

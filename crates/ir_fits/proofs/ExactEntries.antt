@@ -14,7 +14,7 @@ use Rattle.ir_misfits.specs.declared.misfit.HandleOf.TheVariants as handle
 use Rattle.ir_misfits.specs.declared.misfit.Place.TheVariants as place
 use Rattle.ir_misfits.specs.declared.misfit.Problem.TheVariants as problem
 use Rattle.ir_misfits.specs.declared.misfit.VariableField.TheVariants as field
-use Rattle.ir_misfits.specs.Points.{Points, named, named_if}
+use Rattle.ir_misfits.specs.MisfitPoints.{MisfitPoints, named, named_if}
 use Rattle.ir_fits.specs.OfEntries.{mesh_points, mesh_points_if, is_of_module, space_points, entry_points}
 use Rattle.ir_misfits.proofs.Exact.{Exact, nothing, said, point_alone, named_then, named_alone, named_if_alone, both, all_exact}
 
@@ -35,9 +35,9 @@ mesh_exact m k i =
     let P5 : Type 0 = i.output_variable < g in
     let ps1 = named_if vertices handle.GlobalExpressions n i.max_vertices_override in
     let ps2 = named_if primitives handle.GlobalExpressions n i.max_primitives_override in
-    let ps5 : Points = named variable handle.GlobalVariables g i.output_variable ∷ [] in
-    let ps4 : Points = named primitive_type handle.Types t i.primitive_output_type ∷ ps5 in
-    let ps3 : Points = named vertex_type handle.Types t i.vertex_output_type ∷ ps4 in
+    let ps5 : MisfitPoints = named variable handle.GlobalVariables g i.output_variable ∷ [] in
+    let ps4 : MisfitPoints = named primitive_type handle.Types t i.primitive_output_type ∷ ps5 in
+    let ps3 : MisfitPoints = named vertex_type handle.Types t i.vertex_output_type ∷ ps4 in
     let e5 = named_alone variable handle.GlobalVariables g i.output_variable in
     let e4 = named_then primitive_type handle.Types t i.primitive_output_type ps5 P5 e5 in
     let e3 = named_then vertex_type handle.Types t i.vertex_output_type ps4 (P4 × P5) e4 in

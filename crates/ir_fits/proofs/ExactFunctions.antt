@@ -12,7 +12,7 @@ use Rattle.ir_misfits.specs.declared.misfit.HandleOf.TheVariants as handle
 use Rattle.ir_misfits.specs.declared.misfit.Owner.{Owner}
 use Rattle.ir_misfits.specs.declared.misfit.Place.TheVariants as place
 use Rattle.ir_misfits.specs.declared.misfit.VariableField.TheVariants as field
-use Rattle.ir_misfits.specs.Points.{named_if}
+use Rattle.ir_misfits.specs.MisfitPoints.{named_if}
 use Rattle.ir_misfits.specs.OfSignatures.{signature_points}
 use Rattle.ir_misfits.specs.OfExpressions.{expressions_points, reference_points}
 use Rattle.ir_misfits.specs.OfBodies.{body_points}

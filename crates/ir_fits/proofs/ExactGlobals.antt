@@ -23,7 +23,7 @@ use Rattle.ir_misfits.specs.declared.misfit.Problem.TheVariants as problem
 use Rattle.ir_misfits.specs.declared.misfit.TypeField.TheVariants as type_field
 use Rattle.ir_misfits.specs.declared.misfit.TypeOwner.TheVariants.{OfGlobalExpression}
 use Rattle.ir_misfits.specs.declared.misfit.VariableField.TheVariants as field
-use Rattle.ir_misfits.specs.Points.{named_if}
+use Rattle.ir_misfits.specs.MisfitPoints.{named_if}
 use Rattle.ir_misfits.specs.OfExpressions.{expressions_points}
 use Rattle.ir_fits.specs.OfGlobals.{is_unbindable, is_unbindable_array, is_bindable, global_points, resolution_points, one_type_each, globals_points}
 use Rattle.ir_misfits.proofs.Exact.{Exact, said, point_then, point_alone, named_then, named_alone, named_if_alone, both, all_exact}

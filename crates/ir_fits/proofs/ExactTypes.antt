@@ -13,7 +13,7 @@ use Rattle.ir_misfits.specs.declared.misfit.Place.TheVariants as place
 use Rattle.ir_misfits.specs.declared.misfit.TypeField.TheVariants as type_field
 use Rattle.ir_misfits.specs.declared.misfit.TypeOwner.{TypeOwner}
 use Rattle.ir_misfits.specs.declared.misfit.TypeOwner.TheVariants.{OfModule}
-use Rattle.ir_misfits.specs.Points.{named_if}
+use Rattle.ir_misfits.specs.MisfitPoints.{named_if}
 use Rattle.ir_fits.specs.OfTypes.{member_points, inner_points, earlier_points, member_count_points, count_points, constant_points, override_points, types_points}
 use Rattle.ir_misfits.proofs.Exact.{Exact, nothing, said, named_alone, named_if_alone, counted_then, both, each_exact, all_exact}
 

@@ -12,10 +12,10 @@ use Rattle.ir_misfits.specs.declared.misfit.VariableField.TheVariants.{Space}
 use Rattle.ir_misfits.specs.declared.misfit.Place.TheVariants as place
 use Rattle.ir_misfits.specs.declared.misfit.HandleOf.TheVariants as handle
 use Rattle.ir_misfits.specs.declared.misfit.Problem.TheVariants.{InFunctionSpace}
-use Rattle.ir_misfits.specs.Points.{Points, named, named_if}
+use Rattle.ir_misfits.specs.MisfitPoints.{MisfitPoints, named, named_if}
 
 -- what entry point k says of its mesh: the overrides, the types and the variable are there
-abbrev pub mesh_points : Module → ℕ → MeshStageInfo → Points
+abbrev pub mesh_points : Module → ℕ → MeshStageInfo → MisfitPoints
 mesh_points m k i =
     named_if (place.InEntryPoint k field.MaxVerticesOverride) handle.GlobalExpressions (length m.global_expressions) i.max_vertices_override
     ++ (named_if (place.InEntryPoint k field.MaxPrimitivesOverride) handle.GlobalExpressions (length m.global_expressions) i.max_primitives_override
@@ -24,21 +24,29 @@ mesh_points m k i =
     ∷ named (place.InEntryPoint k field.OutputVariable) handle.GlobalVariables (length m.global_variables) i.output_variable
     ∷ []))
 
-abbrev pub mesh_points_if : Module → ℕ → Option MeshStageInfo → Points
+abbrev pub mesh_points_if : Module → ℕ → Option MeshStageInfo → MisfitPoints
 mesh_points_if m k None = []
 mesh_points_if m k (Some i) = mesh_points m k i
 
 -- a space other than Function
 abbrev pub is_of_module : AddressSpace → Bool
 is_of_module space.Function = false
-is_of_module _ = true
+is_of_module space.Private = true
+is_of_module space.WorkGroup = true
+is_of_module space.Uniform = true
+is_of_module (space.Storage access) = true
+is_of_module space.Handle = true
+is_of_module space.Immediate = true
+is_of_module space.TaskPayload = true
+is_of_module space.RayPayload = true
+is_of_module space.IncomingRayPayload = true
 
 -- a global doesn't lie in the space Function
-abbrev pub space_points : ℕ → GlobalVariable → Points
+abbrev pub space_points : ℕ → GlobalVariable → MisfitPoints
 space_points k g = (is_of_module g.space, record { place = place.InGlobal k Space; problem = InFunctionSpace }) ∷ []
 
 -- entry point k: its payload; its mesh; and no global lies in the space Function
-abbrev pub entry_points : ℕ → EntryPoint → Module → Points
+abbrev pub entry_points : ℕ → EntryPoint → Module → MisfitPoints
 entry_points k p m =
     named_if (place.InEntryPoint k field.TaskPayload) handle.GlobalVariables (length m.global_variables) p.task_payload
     ++ (mesh_points_if m k p.mesh_info ++ points_of_each space_points m.global_variables)

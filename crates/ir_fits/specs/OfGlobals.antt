@@ -20,7 +20,7 @@ use Rattle.ir_misfits.specs.declared.misfit.Place.TheVariants as place
 use Rattle.ir_misfits.specs.declared.misfit.HandleOf.TheVariants.{Types, GlobalExpressions}
 use Rattle.ir_misfits.specs.declared.misfit.Problem.TheVariants as problem
 use Rattle.ir_misfits.specs.declared.misfit.Misfit.{Misfit}
-use Rattle.ir_misfits.specs.Points.{Points, named, named_if}
+use Rattle.ir_misfits.specs.MisfitPoints.{MisfitPoints, named, named_if}
 use Rattle.ir_fits.specs.OfTypes.{inner_points}
 use Rattle.ir_misfits.specs.OfExpressions.{expressions_points}
 
@@ -49,14 +49,14 @@ is_bindable types space.RayPayload ty = true
 is_bindable types space.IncomingRayPayload ty = true
 
 -- a global: its type and its initializer are there, and in space Handle it is no such binding array
-abbrev pub global_points : Module → ℕ → GlobalVariable → Points
+abbrev pub global_points : Module → ℕ → GlobalVariable → MisfitPoints
 global_points m k g =
     named (place.InGlobal k field.Ty) Types (length m.types) g.ty
     ∷ (named_if (place.InGlobal k field.Init) GlobalExpressions (length m.global_expressions) g.init
     ++ (is_bindable m.types g.space g.ty, record { place = place.InGlobal k field.Ty; problem = problem.Unbindable }) ∷ [])
 
 -- what the type of a global expression names is one of n types
-abbrev pub resolution_points : ℕ → ℕ → TypeResolution → Points
+abbrev pub resolution_points : ℕ → ℕ → TypeResolution → MisfitPoints
 resolution_points n k (Handle h) = named (place.InType (OfGlobalExpression k) type_field.Whole) Types n h ∷ []
 resolution_points n k (Value i) = inner_points (OfGlobalExpression k) n i
 
@@ -68,7 +68,7 @@ one_type_each m types = (
 )
 
 -- the globals; one type for each global expression, and what these types name; global expressions name earlier ones
-abbrev pub globals_points : Module → List TypeResolution → Points
+abbrev pub globals_points : Module → List TypeResolution → MisfitPoints
 globals_points m types =
     points_of_each (global_points m) m.global_variables
     ++ (one_type_each m types

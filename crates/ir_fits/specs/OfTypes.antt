@@ -13,14 +13,14 @@ use Rattle.ir_misfits.specs.declared.misfit.TypeOwner.TheVariants.{OfModule}
 use Rattle.ir_misfits.specs.declared.misfit.TypeField.TheVariants as field
 use Rattle.ir_misfits.specs.declared.misfit.Place.TheVariants as place
 use Rattle.ir_misfits.specs.declared.misfit.HandleOf.TheVariants.{Types}
-use Rattle.ir_misfits.specs.Points.{Points, named, named_if, counted}
+use Rattle.ir_misfits.specs.MisfitPoints.{MisfitPoints, named, named_if, counted}
 
 -- the type of a member has a handle below n
-abbrev pub member_points : TypeOwner → ℕ → ℕ → StructMember → Points
+abbrev pub member_points : TypeOwner → ℕ → ℕ → StructMember → MisfitPoints
 member_points owner n k m = named (place.InType owner (field.Member k)) Types n m.ty ∷ []
 
 -- every type that a type names has a handle below n
-abbrev pub inner_points : TypeOwner → ℕ → TypeInner → Points
+abbrev pub inner_points : TypeOwner → ℕ → TypeInner → MisfitPoints
 inner_points owner n (inner.Pointer base space) = named (place.InType owner field.Base) Types n base ∷ []
 inner_points owner n (inner.Array base size stride) = named (place.InType owner field.Base) Types n base ∷ []
 inner_points owner n (inner.BindingArray base size) = named (place.InType owner field.Base) Types n base ∷ []
@@ -37,28 +37,28 @@ inner_points owner n (inner.AccelerationStructure vertex_return) = []
 inner_points owner n (inner.RayQuery vertex_return) = []
 
 -- the type with handle k names only earlier ones
-abbrev pub earlier_points : ℕ → IrType → Points
+abbrev pub earlier_points : ℕ → IrType → MisfitPoints
 earlier_points k t = inner_points (OfModule k) k t.inner
 
 -- how many members a struct has fits 32 bits
-abbrev pub member_count_points : ℕ → TypeInner → Points
+abbrev pub member_count_points : ℕ → TypeInner → MisfitPoints
 member_count_points k (inner.Struct members span) =
     counted (place.InType (OfModule k) field.Members) (length members) ∷ []
 member_count_points k _ = []
 
-abbrev pub count_points : ℕ → IrType → Points
+abbrev pub count_points : ℕ → IrType → MisfitPoints
 count_points k t = member_count_points k t.inner
 
 -- of n types: the type of a constant, and that of an override, are there
-abbrev pub constant_points : ℕ → ℕ → Constant → Points
+abbrev pub constant_points : ℕ → ℕ → Constant → MisfitPoints
 constant_points n k c = named (place.ConstantType k) Types n c.ty ∷ []
 
-abbrev pub override_points : ℕ → ℕ → Override → Points
+abbrev pub override_points : ℕ → ℕ → Override → MisfitPoints
 override_points n k o = named (place.OverrideType k) Types n o.ty ∷ []
 
 -- each type names only earlier ones; the number of members of each fits 32 bits; the type of ray descriptors is there, and
 -- those of constants and of overrides
-abbrev pub types_points : Module → Points
+abbrev pub types_points : Module → MisfitPoints
 types_points m =
     points_of_each earlier_points m.types
     ++ (points_of_each count_points m.types

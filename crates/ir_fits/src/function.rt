@@ -1,10 +1,10 @@
 //! Whether a function fits, and what doesn't fit of it.
 
-ghost use Rattle.std.specs.Prelude.{◌≡◌, ◌↔◌, IsTrue, All};
-ghost use Rattle.std.specs.Result.{result_err};
-ghost use Rattle.ir_arena.specs.Points.{first_fault, points_of_each};
+ghost use Rattle.std.specs.Prelude.{◌↔◌, IsTrue, All};
+ghost use Rattle.ir_arena.specs.Points.{points_of_each};
 ghost use Rattle.ir_facts.specs.Fits.{LocalFits};
 ghost use Rattle.ir_fits.specs.OfFunctions.{local_points, function_points};
+ghost use Rattle.ir_facts.specs.Answers.{Finds, FirstOf};
 
 use crate::fits::fits_function;
 use ir_misfits::expressions::{check_expressions, check_references};
@@ -40,7 +40,7 @@ pub fn check_function_fits(
     module: &Module,
     earlier: usize,
 ) -> Result<(), Misfit>
-    ensures { result_err result ≡ first_fault (function_points owner fun.now «module».now earlier) }
+    ensures { Finds (FirstOf (function_points owner fun.now «module».now earlier)) result }
 {
     // (asked first for its time: room for a misfit costs more than to see that there is none)
     if fits_function(fun, module, earlier) {
@@ -58,7 +58,7 @@ fn first_misfit_of_function(
     module: &Module,
     earlier: usize,
 ) -> Result<(), Misfit>
-    ensures { result_err result ≡ first_fault (function_points owner fun.now «module».now earlier) }
+    ensures { Finds (FirstOf (function_points owner fun.now «module».now earlier)) result }
 {
     let expressions = fun.expressions.as_slice();
     check_signature(owner, fun, module)?;
@@ -76,7 +76,7 @@ fn check_local(
     fun: &Function,
     module: &Module,
 ) -> Result<(), Misfit>
-    ensures { result_err result ≡ first_fault (local_points «module».now fun.now owner place local.now) }
+    ensures { Finds (FirstOf (local_points «module».now fun.now owner place local.now)) result }
 {
     Place::InLocal(owner, place, VariableField::Ty).names(
         HandleOf::Types,
@@ -96,8 +96,7 @@ fn check_locals(
     fun: &Function,
     module: &Module,
 ) -> Result<(), Misfit>
-    ensures { result_err result
-        ≡ first_fault (points_of_each (local_points «module».now fun.now owner) locals.now) }
+    ensures { Finds (FirstOf (points_of_each (local_points «module».now fun.now owner) locals.now)) result }
 {
     for (place, local) in locals.iter().enumerate() {
         check_local(owner, place, local, fun, module)?;

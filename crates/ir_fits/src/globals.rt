@@ -2,10 +2,10 @@
 
 ghost use Rattle.std.specs.Prelude.{◌≡◌, ◌∷◌, []};
 ghost use Rattle.std.specs.Option.{option_copied};
-ghost use Rattle.std.specs.Result.{result_err};
-ghost use Rattle.ir_arena.specs.Points.{first_fault, points_of_each};
+ghost use Rattle.ir_arena.specs.Points.{points_of_each};
 ghost use Rattle.ir_types.specs.Types.{inner_at};
 ghost use Rattle.ir_fits.specs.OfGlobals.{is_unbindable, is_unbindable_array, is_bindable, global_points, resolution_points, one_type_each, globals_points};
+ghost use Rattle.ir_facts.specs.Answers.{Finds, FirstOf};
 
 use crate::types::check_inner;
 use ir_arena::handle::Handle;
@@ -27,7 +27,7 @@ use ir_types::unique_arena::UniqueArena;
 /// expressions, which are earlier ones.
 #[tactic(auto, using(ir_arena::proofs::Points::first_of_both))]
 pub fn check_globals_fit(module: &Module, types: &[TypeResolution]) -> Result<(), Misfit>
-    ensures { result_err result ≡ first_fault (globals_points «module».now types.now) }
+    ensures { Finds (FirstOf (globals_points «module».now types.now)) result }
 {
     check_globals(module.global_variables.as_slice(), module)?;
     check_one_type_each(types, module)?;
@@ -91,7 +91,7 @@ fn is_bindable(types: &UniqueArena<Type>, space: AddressSpace, ty: Handle<tag::T
 /// A global: its type and its initializer are there, and it may be of this type in its space.
 #[tactic(auto, using(ir_arena::proofs::Points::first_of_both))]
 fn check_global_fits(place: usize, global: &GlobalVariable, module: &Module) -> Result<(), Misfit>
-    ensures { result_err result ≡ first_fault (global_points «module».now place global.now) }
+    ensures { Finds (FirstOf (global_points «module».now place global.now)) result }
 {
     let ty = Place::InGlobal(place, VariableField::Ty);
     ty.names(HandleOf::Types, global.ty.index(), module.types.len())?;
@@ -107,7 +107,7 @@ fn check_global_fits(place: usize, global: &GlobalVariable, module: &Module) -> 
 }
 
 fn check_globals(globals: &[GlobalVariable], module: &Module) -> Result<(), Misfit>
-    ensures { result_err result ≡ first_fault (points_of_each (global_points «module».now) globals.now) }
+    ensures { Finds (FirstOf (points_of_each (global_points «module».now) globals.now)) result }
 {
     for (place, global) in globals.iter().enumerate() {
         check_global_fits(place, global, module)?;
@@ -117,7 +117,7 @@ fn check_globals(globals: &[GlobalVariable], module: &Module) -> Result<(), Misf
 
 /// There is one type for each global expression.
 fn check_one_type_each(types: &[TypeResolution], module: &Module) -> Result<(), Misfit>
-    ensures { result_err result ≡ first_fault (one_type_each «module».now types.now ∷ []) }
+    ensures { Finds (FirstOf (one_type_each «module».now types.now ∷ [])) result }
 {
     let found = types.len();
     let wanted = module.global_expressions.len();
@@ -129,7 +129,7 @@ fn check_one_type_each(types: &[TypeResolution], module: &Module) -> Result<(), 
 
 /// What the type of a global expression names is one of so many types.
 fn check_resolution(place: usize, resolution: &TypeResolution, types: usize) -> Result<(), Misfit>
-    ensures { result_err result ≡ first_fault (resolution_points types place resolution.now) }
+    ensures { Finds (FirstOf (resolution_points types place resolution.now)) result }
 {
     let owner = TypeOwner::OfGlobalExpression(place);
     match resolution {
@@ -141,7 +141,7 @@ fn check_resolution(place: usize, resolution: &TypeResolution, types: usize) -> 
 }
 
 fn check_resolutions(resolutions: &[TypeResolution], types: usize) -> Result<(), Misfit>
-    ensures { result_err result ≡ first_fault (points_of_each (resolution_points types) resolutions.now) }
+    ensures { Finds (FirstOf (points_of_each (resolution_points types) resolutions.now)) result }
 {
     for (place, resolution) in resolutions.iter().enumerate() {
         check_resolution(place, resolution, types)?;

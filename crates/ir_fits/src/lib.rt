@@ -1,13 +1,13 @@
-//! The tests of conditions: whether all that a module names exists (handles in range), and the first thing that doesn't. Nothing
-//! allocates. Users import the tests from `naga_below`.
+//! The tests of conditions: whether all that a module names exists (handles in range), and the first thing that doesn't.
+//! Nothing allocates. Users import the tests from `naga_below`.
 #![tactic(auto)]
 
-pub mod entry;
-pub mod fits;
-pub mod function;
-pub mod globals;
-pub mod laws;
-pub mod types;
+mod entry;
+mod fits;
+mod function;
+mod globals;
+mod laws;
+mod types;
 
 pub use crate::entry::check_entry_fits;
 pub use crate::fits::{fits_entry, fits_function, fits_globals, fits_types};

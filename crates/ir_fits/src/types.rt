@@ -1,9 +1,8 @@
 //! What doesn't fit of the types of a module.
 
-ghost use Rattle.std.specs.Prelude.{◌≡◌};
-ghost use Rattle.std.specs.Result.{result_err};
-ghost use Rattle.ir_arena.specs.Points.{first_fault, points_of_each};
+ghost use Rattle.ir_arena.specs.Points.{points_of_each};
 ghost use Rattle.ir_fits.specs.OfTypes.{member_points, inner_points, earlier_points, member_count_points, count_points, constant_points, override_points, types_points};
+ghost use Rattle.ir_facts.specs.Answers.{Finds, FirstOf};
 
 use ir_misfits::misfit::{HandleOf, Misfit, Place, TypeField, TypeOwner};
 use ir_module::module::{Constant, Module, Override};
@@ -15,7 +14,7 @@ use ir_types::types::{StructMember, Type, TypeInner};
 /// descriptors, of a constant, of an override, which isn't there.
 #[tactic(auto, using(ir_arena::proofs::Points::first_of_both))]
 pub fn check_types_fit(module: &Module) -> Result<(), Misfit>
-    ensures { result_err result ≡ first_fault (types_points «module».now) }
+    ensures { Finds (FirstOf (types_points «module».now)) result }
 {
     let types = module.types.as_slice();
     check_earlier(types)?;
@@ -27,7 +26,7 @@ pub fn check_types_fit(module: &Module) -> Result<(), Misfit>
 
 /// The types of members have handles below `below`.
 fn check_members(owner: TypeOwner, members: &[StructMember], below: usize) -> Result<(), Misfit>
-    ensures { result_err result ≡ first_fault (points_of_each (member_points owner below) members.now) }
+    ensures { Finds (FirstOf (points_of_each (member_points owner below) members.now)) result }
 {
     for (index, member) in members.iter().enumerate() {
         let place = Place::InType(owner, TypeField::Member(index));
@@ -38,7 +37,7 @@ fn check_members(owner: TypeOwner, members: &[StructMember], below: usize) -> Re
 
 /// Every type that this one names has a handle below `below`.
 pub(crate) fn check_inner(owner: TypeOwner, inner: &TypeInner, below: usize) -> Result<(), Misfit>
-    ensures { result_err result ≡ first_fault (inner_points owner below inner.now) }
+    ensures { Finds (FirstOf (inner_points owner below inner.now)) result }
 {
     match inner {
         TypeInner::Pointer { base, .. }
@@ -62,7 +61,7 @@ pub(crate) fn check_inner(owner: TypeOwner, inner: &TypeInner, below: usize) -> 
 
 /// Each type names only earlier ones.
 fn check_earlier(types: &[Type]) -> Result<(), Misfit>
-    ensures { result_err result ≡ first_fault (points_of_each earlier_points types.now) }
+    ensures { Finds (FirstOf (points_of_each earlier_points types.now)) result }
 {
     for (place, ty) in types.iter().enumerate() {
         check_inner(TypeOwner::OfModule(place), &ty.inner, place)?;
@@ -72,7 +71,7 @@ fn check_earlier(types: &[Type]) -> Result<(), Misfit>
 
 /// 32 bits count the members of the type with this handle, if it is a struct.
 fn check_count(place: usize, inner: &TypeInner) -> Result<(), Misfit>
-    ensures { result_err result ≡ first_fault (member_count_points place inner.now) }
+    ensures { Finds (FirstOf (member_count_points place inner.now)) result }
 {
     match inner {
         TypeInner::Struct { members, .. } => {
@@ -84,7 +83,7 @@ fn check_count(place: usize, inner: &TypeInner) -> Result<(), Misfit>
 
 /// The same of each type.
 fn check_counts(types: &[Type]) -> Result<(), Misfit>
-    ensures { result_err result ≡ first_fault (points_of_each count_points types.now) }
+    ensures { Finds (FirstOf (points_of_each count_points types.now)) result }
 {
     for (place, ty) in types.iter().enumerate() {
         check_count(place, &ty.inner)?;
@@ -94,7 +93,7 @@ fn check_counts(types: &[Type]) -> Result<(), Misfit>
 
 /// The type of each constant is one of so many.
 fn check_constants(constants: &[Constant], types: usize) -> Result<(), Misfit>
-    ensures { result_err result ≡ first_fault (points_of_each (constant_points types) constants.now) }
+    ensures { Finds (FirstOf (points_of_each (constant_points types) constants.now)) result }
 {
     for (place, constant) in constants.iter().enumerate() {
         Place::ConstantType(place).names(HandleOf::Types, constant.ty.index(), types)?;
@@ -104,7 +103,7 @@ fn check_constants(constants: &[Constant], types: usize) -> Result<(), Misfit>
 
 /// And that of each override.
 fn check_overrides(overrides: &[Override], types: usize) -> Result<(), Misfit>
-    ensures { result_err result ≡ first_fault (points_of_each (override_points types) overrides.now) }
+    ensures { Finds (FirstOf (points_of_each (override_points types) overrides.now)) result }
 {
     for (place, item) in overrides.iter().enumerate() {
         Place::OverrideType(place).names(HandleOf::Types, item.ty.index(), types)?;

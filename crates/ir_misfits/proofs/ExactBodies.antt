@@ -24,7 +24,7 @@ use Rattle.ir_misfits.specs.declared.misfit.Place.TheVariants as place
 use Rattle.ir_misfits.specs.declared.misfit.Problem.TheVariants as problem
 use Rattle.ir_misfits.specs.declared.misfit.StatementField.{StatementField}
 use Rattle.ir_misfits.specs.declared.misfit.StatementField.TheVariants as field
-use Rattle.ir_misfits.specs.Points.{Points}
+use Rattle.ir_misfits.specs.MisfitPoints.{MisfitPoints}
 use Rattle.ir_misfits.specs.OfSignatures.{callee_points}
 use Rattle.ir_misfits.specs.OfBodies.{next, after_statement, after_body, names, names_if, atomic_points, gather_points, query_points, pipeline_points, range_points, call_argument_points, call_points, leaf_points, statement_points, body_points, cases_points}
 use Rattle.ir_misfits.proofs.Exact.{Exact, nothing, said, point_then, point_alone, named_then, named_alone, named_if_alone, both, all_exact}
@@ -38,13 +38,13 @@ module _ (n : ℕ) (of : Owner) (k : ℕ) where
   abbrev Maybe : Option ℕ → Type 0
   Maybe o = IfSome o (λ h. h < n)
 
-  first : (f : StatementField) (h : ℕ) (ps : Points) (Q : Type 0) → Exact ps Q → Exact (names n of k f h ++ ps) (Is h × Q)
+  first : (f : StatementField) (h : ℕ) (ps : MisfitPoints) (Q : Type 0) → Exact ps Q → Exact (names n of k f h ++ ps) (Is h × Q)
   first f h ps Q rest = named_then (place.InStatement of k f) handle.Expressions n h ps Q rest
 
   last : (f : StatementField) (h : ℕ) → Exact (names n of k f h) (Is h)
   last f h = named_alone (place.InStatement of k f) handle.Expressions n h
 
-  first_if : (f : StatementField) (o : Option ℕ) (ps : Points) (Q : Type 0) → Exact ps Q → Exact (names_if n of k f o ++ ps) (Maybe o × Q)
+  first_if : (f : StatementField) (o : Option ℕ) (ps : MisfitPoints) (Q : Type 0) → Exact ps Q → Exact (names_if n of k f o ++ ps) (Maybe o × Q)
   first_if f o ps Q rest =
       both (names_if n of k f o) ps (Maybe o) Q (named_if_alone (place.InStatement of k f) handle.Expressions n o) rest
 

@@ -16,7 +16,7 @@ use Rattle.ir_misfits.specs.declared.misfit.Owner.{Owner}
 use Rattle.ir_misfits.specs.declared.misfit.Owner.TheVariants as owner
 use Rattle.ir_misfits.specs.declared.misfit.Place.{Place}
 use Rattle.ir_misfits.specs.declared.misfit.Place.TheVariants as place
-use Rattle.ir_misfits.specs.Points.{named}
+use Rattle.ir_misfits.specs.MisfitPoints.{named}
 use Rattle.ir_misfits.specs.OfSignatures.{argument_points, outcome_points, signature_points, signature_points_if, callee_points}
 use Rattle.ir_misfits.specs.OfExpressions.{expressions_of, operand_points, operands_points, expressions_points, reference_points}
 use Rattle.ir_misfits.proofs.Lists.{none_is_past}

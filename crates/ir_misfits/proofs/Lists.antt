@@ -6,7 +6,7 @@ use Rattle.std.specs.Prelude.{Option, None, Some, slice_get}
 use Rattle.ir_facts.proofs.Each.{from_here}
 use Rattle.ir_arena.proofs.Points.{first_of_both}
 use Rattle.ir_arena.specs.Points.{Point, first_fault, points_from, points_of_each}
-use Rattle.ir_misfits.specs.Points.{points_if}
+use Rattle.ir_misfits.specs.MisfitPoints.{points_if}
 
 -- where a list has no item, its end is before
 pub none_is_past : {A : Type 0} (xs : List A) (k : ℕ) → slice_get xs k ≡ None → k < length xs → ⊥

@@ -11,22 +11,22 @@ use Rattle.ir_arena.specs.Points.{first_fault}
 use Rattle.ir_misfits.proofs.Tails.{tail}
 use Rattle.ir_misfits.specs.declared.misfit.Misfit.{Misfit}
 use Rattle.ir_misfits.specs.declared.misfit.Owner.{Owner}
-use Rattle.ir_misfits.specs.Points.{Points}
+use Rattle.ir_misfits.specs.MisfitPoints.{MisfitPoints}
 use Rattle.ir_misfits.specs.OfBodies.{after_statement, after_body, after_cases, statement_points, body_points, cases_points}
 
 -- a point holds, and others decide
-pub goes_on : (c : Bool) (f : Misfit) (ps : Points) (o : Option Misfit) → None ≡ first_fault ((c, f) ∷ []) → o ≡ first_fault ps → o ≡ first_fault ((c, f) ∷ ps)
+pub goes_on : (c : Bool) (f : Misfit) (ps : MisfitPoints) (o : Option Misfit) → None ≡ first_fault ((c, f) ∷ []) → o ≡ first_fault ps → o ≡ first_fault ((c, f) ∷ ps)
 goes_on true f ps o h e = e
 goes_on false f ps o h e = cc
 
 -- a point holds, and one of others fails, before what comes next
-pub stops_in : (c : Bool) (f : Misfit) (ps rest : Points) (told : Misfit) → None ≡ first_fault ((c, f) ∷ []) → Some told ≡ first_fault ps →
+pub stops_in : (c : Bool) (f : Misfit) (ps rest : MisfitPoints) (told : Misfit) → None ≡ first_fault ((c, f) ∷ []) → Some told ≡ first_fault ps →
     Some told ≡ first_fault ((c, f) ∷ ps ++ rest)
 stops_in true f ps rest told h e = ap (λ o. option_or o (first_fault rest)) e ∙ sym (first_of_both ps rest)
 stops_in false f ps rest told h e = cc
 
 -- points hold, and others behind them decide
-pub passes_in : (ps rest : Points) (o : Option Misfit) → None ≡ first_fault ps → o ≡ first_fault rest → o ≡ first_fault (ps ++ rest)
+pub passes_in : (ps rest : MisfitPoints) (o : Option Misfit) → None ≡ first_fault ps → o ≡ first_fault rest → o ≡ first_fault (ps ++ rest)
 passes_in ps rest o h e = e ∙ ap (λ x. option_or x (first_fault rest)) h ∙ sym (first_of_both ps rest)
 
 module _ (m : Module) (n earlier : ℕ) (of : Owner) where

@@ -1,4 +1,4 @@
-pub mod Points
+pub mod MisfitPoints
 pub mod OfSignatures
 pub mod OfExpressions
 pub mod OfBodies

@@ -20,7 +20,7 @@ use Rattle.ir_misfits.specs.declared.misfit.StatementField.TheVariants as field
 use Rattle.ir_misfits.specs.declared.misfit.Place.TheVariants as place
 use Rattle.ir_misfits.specs.declared.misfit.HandleOf.TheVariants as handle
 use Rattle.ir_misfits.specs.declared.misfit.Problem.TheVariants as problem
-use Rattle.ir_misfits.specs.Points.{Points, named, named_if}
+use Rattle.ir_misfits.specs.MisfitPoints.{MisfitPoints, named, named_if}
 use Rattle.ir_misfits.specs.OfSignatures.{callee_points}
 
 -- the number of the next statement; numbers end where a `usize` does
@@ -51,15 +51,15 @@ abbrev mutual
 -- of n expressions, in this function
 module _ (n : ℕ) (of : Owner) where
   -- an expression that statement k names in this field is there
-  abbrev pub names : ℕ → StatementField → ℕ → Points
+  abbrev pub names : ℕ → StatementField → ℕ → MisfitPoints
   names k field h = named (place.InStatement of k field) handle.Expressions n h ∷ []
 
   -- the same of one that may be left out
-  abbrev pub names_if : ℕ → StatementField → Option ℕ → Points
+  abbrev pub names_if : ℕ → StatementField → Option ℕ → MisfitPoints
   names_if k field o = named_if (place.InStatement of k field) handle.Expressions n o
 
   -- what an exchange compares with
-  abbrev pub atomic_points : ℕ → AtomicFunction → Points
+  abbrev pub atomic_points : ℕ → AtomicFunction → MisfitPoints
   atomic_points k (atomic.Exchange c) = names_if k field.Compare c
   atomic_points k atomic.Add = []
   atomic_points k atomic.Subtract = []
@@ -70,7 +70,7 @@ module _ (n : ℕ) (of : Owner) where
   atomic_points k atomic.Max = []
 
   -- the index of a gather, if its mode has one
-  abbrev pub gather_points : ℕ → GatherMode → Points
+  abbrev pub gather_points : ℕ → GatherMode → MisfitPoints
   gather_points k mode.BroadcastFirst = []
   gather_points k (mode.QuadSwap d) = []
   gather_points k (mode.Broadcast h) = names k field.Mode h
@@ -81,7 +81,7 @@ module _ (n : ℕ) (of : Owner) where
   gather_points k (mode.QuadBroadcast h) = names k field.Mode h
 
   -- a step of a ray query
-  abbrev pub query_points : ℕ → RayQueryFunction → Points
+  abbrev pub query_points : ℕ → RayQueryFunction → MisfitPoints
   query_points k (query.Initialize a d) = names k field.AccelerationStructure a ++ names k field.Descriptor d
   query_points k (query.Proceed r) = names k field.Result r
   query_points k (query.GenerateIntersection t) = names k field.HitT t
@@ -89,12 +89,12 @@ module _ (n : ℕ) (of : Owner) where
   query_points k query.Terminate = []
 
   -- a ray that is traced
-  abbrev pub pipeline_points : ℕ → RayPipelineFunction → Points
+  abbrev pub pipeline_points : ℕ → RayPipelineFunction → MisfitPoints
   pipeline_points k (TraceRay a d p) =
       names k field.AccelerationStructure a ++ (names k field.Descriptor d ++ names k field.Payload p)
 
   -- the range of an Emit is in order, and within the expressions
-  abbrev pub range_points : ℕ → Range → Points
+  abbrev pub range_points : ℕ → Range → MisfitPoints
   range_points k r = (
     nat_le r.start r.end,
     record {
@@ -106,60 +106,60 @@ module _ (n : ℕ) (of : Owner) where
       ∷ []
 
   -- an argument of a Call
-  abbrev pub call_argument_points : ℕ → ℕ → ℕ → Points
+  abbrev pub call_argument_points : ℕ → ℕ → ℕ → MisfitPoints
   call_argument_points k i h = names k (field.CallArgument i) h
 
   -- the fields of a Store, an ImageStore, an Atomic, an ImageAtomic, a WorkGroupUniformLoad
-  abbrev pub store_points : ℕ → ℕ → ℕ → Points
+  abbrev pub store_points : ℕ → ℕ → ℕ → MisfitPoints
   store_points k p v = names k field.Pointer p ++ names k field.Value v
 
-  abbrev pub image_store_points : ℕ → ℕ → ℕ → Option ℕ → ℕ → Points
+  abbrev pub image_store_points : ℕ → ℕ → ℕ → Option ℕ → ℕ → MisfitPoints
   image_store_points k i c a v =
       names k field.Image i ++ (names k field.Coordinate c ++ (names_if k field.ArrayIndex a ++ names k field.Value v))
 
-  abbrev pub operation_points : ℕ → ℕ → AtomicFunction → ℕ → Option ℕ → Points
+  abbrev pub operation_points : ℕ → ℕ → AtomicFunction → ℕ → Option ℕ → MisfitPoints
   operation_points k p f v r =
       names k field.Pointer p ++ (atomic_points k f ++ (names k field.Value v ++ names_if k field.Result r))
 
   -- what is done to a texel, and with which value
-  abbrev pub texel_operation_points : ℕ → AtomicFunction → ℕ → Points
+  abbrev pub texel_operation_points : ℕ → AtomicFunction → ℕ → MisfitPoints
   texel_operation_points k f v = atomic_points k f ++ names k field.Value v
 
-  abbrev pub image_operation_points : ℕ → ℕ → ℕ → Option ℕ → AtomicFunction → ℕ → Points
+  abbrev pub image_operation_points : ℕ → ℕ → ℕ → Option ℕ → AtomicFunction → ℕ → MisfitPoints
   image_operation_points k i c a f v =
       names k field.Image i
       ++ (names k field.Coordinate c ++ (names_if k field.ArrayIndex a ++ texel_operation_points k f v))
 
-  abbrev pub uniform_load_points : ℕ → ℕ → ℕ → Points
+  abbrev pub uniform_load_points : ℕ → ℕ → ℕ → MisfitPoints
   uniform_load_points k p r = names k field.Pointer p ++ names k field.Result r
 
   -- those of a RayQuery, and of what subgroups and cooperative matrices do
-  abbrev pub ray_query_points : ℕ → ℕ → RayQueryFunction → Points
+  abbrev pub ray_query_points : ℕ → ℕ → RayQueryFunction → MisfitPoints
   ray_query_points k q f = names k field.Query q ++ query_points k f
 
-  abbrev pub ballot_points : ℕ → ℕ → Option ℕ → Points
+  abbrev pub ballot_points : ℕ → ℕ → Option ℕ → MisfitPoints
   ballot_points k r p = names k field.Result r ++ names_if k field.Predicate p
 
-  abbrev pub collective_points : ℕ → ℕ → ℕ → Points
+  abbrev pub collective_points : ℕ → ℕ → ℕ → MisfitPoints
   collective_points k a r = names k field.Argument a ++ names k field.Result r
 
-  abbrev pub gathering_points : ℕ → GatherMode → ℕ → ℕ → Points
+  abbrev pub gathering_points : ℕ → GatherMode → ℕ → ℕ → MisfitPoints
   gathering_points k g a r = gather_points k g ++ (names k field.Argument a ++ names k field.Result r)
 
-  abbrev pub cooperative_store_points : ℕ → ℕ → ℕ → Points
+  abbrev pub cooperative_store_points : ℕ → ℕ → ℕ → MisfitPoints
   cooperative_store_points k t p = names k field.Target t ++ names k field.Source p
 
 -- of a module, where a function has n expressions and `earlier` functions before it
 module _ (m : Module) (n earlier : ℕ) (of : Owner) where
   -- a Call names an earlier function, whose signature fits, and expressions that are there
-  abbrev pub call_points : ℕ → ℕ → List ℕ → Option ℕ → Points
+  abbrev pub call_points : ℕ → ℕ → List ℕ → Option ℕ → MisfitPoints
   call_points k f xs r =
       named (place.InStatement of k field.Function) handle.Functions earlier f
       ∷ (callee_points m (place.InStatement of k field.Function) f
       ++ (points_of_each (call_argument_points n of k) xs ++ names_if n of k field.Result r))
 
   -- statement k, which is neither a jump nor holds others; none of any other
-  abbrev pub leaf_points : ℕ → Statement → Points
+  abbrev pub leaf_points : ℕ → Statement → MisfitPoints
   leaf_points k (s.Emit r) = range_points n of k r
   leaf_points k (s.Store p v) = store_points n of k p v
   leaf_points k (s.ImageStore i c a v) = image_store_points n of k i c a v
@@ -186,7 +186,7 @@ module _ (m : Module) (n earlier : ℕ) (of : Owner) where
 
   -- a statement with this number and those that it holds; a list of statements, and cases, of which the first has it
   abbrev mutual
-    pub statement_points : ℕ → Stmt → Points
+    pub statement_points : ℕ → Stmt → MisfitPoints
     statement_points k (Leaf acts statement span) = leaf_points k statement
     statement_points k (Block b) = body_points (next k) b
     statement_points k (Branch c a r) =
@@ -199,10 +199,10 @@ module _ (m : Module) (n earlier : ℕ) (of : Owner) where
     statement_points k (Return v) = names_if n of k field.Value v
     statement_points k Kill = []
 
-    pub body_points : ℕ → Body → Points
+    pub body_points : ℕ → Body → MisfitPoints
     body_points k Done = []
     body_points k (Then first rest) = statement_points k first ++ body_points (after_statement k first) rest
 
-    pub cases_points : ℕ → Cases → Points
+    pub cases_points : ℕ → Cases → MisfitPoints
     cases_points k NoCase = []
     cases_points k (OneCase v f b rest) = body_points k b ++ cases_points (after_body k b) rest

@@ -11,7 +11,7 @@ use Rattle.ir_misfits.specs.declared.misfit.Owner.TheVariants as owner
 use Rattle.ir_misfits.specs.declared.misfit.Place.TheVariants as place
 use Rattle.ir_misfits.specs.declared.misfit.HandleOf.{HandleOf}
 use Rattle.ir_misfits.specs.declared.misfit.HandleOf.TheVariants as handle
-use Rattle.ir_misfits.specs.Points.{Points, named}
+use Rattle.ir_misfits.specs.MisfitPoints.{MisfitPoints, named}
 use Rattle.ir_misfits.specs.OfSignatures.{callee_points}
 
 -- the list that the operands index
@@ -21,20 +21,20 @@ expressions_of (owner.Function h) = handle.Expressions
 expressions_of (owner.EntryPoint k) = handle.Expressions
 
 -- operand i of expression k is an earlier one
-abbrev pub operand_points : Owner → ℕ → ℕ → ℕ → Points
+abbrev pub operand_points : Owner → ℕ → ℕ → ℕ → MisfitPoints
 operand_points of k i h = named (place.Operand of k i) (expressions_of of) k h ∷ []
 
-abbrev pub operands_points : Owner → ℕ → Expression → Points
+abbrev pub operands_points : Owner → ℕ → Expression → MisfitPoints
 operands_points of k x = points_of_each (operand_points of k) (operands_of x)
 
 -- each operand of each expression is an earlier expression
-abbrev pub expressions_points : Owner → List Expression → Points
+abbrev pub expressions_points : Owner → List Expression → MisfitPoints
 expressions_points of xs = points_of_each (operands_points of) xs
 
 -- of a function of a module
 module _ (m : Module) (f : Function) (of : Owner) where
   -- what expression k names besides its operands is there
-  abbrev pub reference_points : ℕ → Expression → Points
+  abbrev pub reference_points : ℕ → Expression → MisfitPoints
   reference_points k (e.Constant h) = named (place.Reference of k) handle.Constants (length m.constants) h ∷ []
   reference_points k (e.Override h) = named (place.Reference of k) handle.Overrides (length m.overrides) h ∷ []
   reference_points k (e.ZeroValue t) = named (place.Reference of k) handle.Types (length m.types) t ∷ []

@@ -1,11 +1,10 @@
 //! Whether the statements of a body fit, at any depth, and what doesn't fit of them.
 
 ghost use Rattle.std.specs.Prelude.{◌≡◌, ◌↔◌, IsTrue, IfOk};
-ghost use Rattle.std.specs.Result.{result_err};
-ghost use Rattle.ir_arena.specs.Points.{first_fault};
 ghost use Rattle.ir_statements.specs.View.{no_operands, tree_of, body_of, list_body, list_cases};
 ghost use Rattle.ir_facts.specs.FitsBody.{StatementFits, BodyFits, CasesFit};
 ghost use Rattle.ir_misfits.specs.OfBodies.{next, after_statement, after_body, after_cases, statement_points, body_points, cases_points};
+ghost use Rattle.ir_facts.specs.Answers.{Finds, FirstOf};
 
 use crate::leaf::{Asked, check_leaf, leaf_fits};
 use crate::misfit::{Misfit, Owner, StatementField};
@@ -124,8 +123,8 @@ pub(crate) fn check_block(
     number: usize,
     block: &Block,
 ) -> Result<usize, Misfit>
-    ensures first { result_err result ≡ first_fault (body_points asked.now.module.now asked.now.expressions
-        asked.now.earlier owner number (body_of no_operands block.now)) }
+    ensures first { Finds (FirstOf (body_points asked.now.module.now asked.now.expressions
+        asked.now.earlier owner number (body_of no_operands block.now))) result }
     ensures after { IfOk result (λ after. after ≡ after_body number (body_of no_operands block.now)) }
 {
     check_list(asked, owner, number, block.list.as_slice())
@@ -134,8 +133,8 @@ pub(crate) fn check_block(
 #[cycle(check)]
 #[tactic(auto, using(ir_arena::proofs::Points::first_of_both))]
 fn check_list(asked: &Asked, owner: Owner, number: usize, list: &[Located]) -> Result<usize, Misfit>
-    ensures first { result_err result ≡ first_fault (body_points asked.now.module.now asked.now.expressions
-        asked.now.earlier owner number (list_body no_operands list.now)) }
+    ensures first { Finds (FirstOf (body_points asked.now.module.now asked.now.expressions
+        asked.now.earlier owner number (list_body no_operands list.now))) result }
     ensures after { IfOk result (λ after. after ≡ after_body number (list_body no_operands list.now)) }
 {
     let mut after = number;
@@ -153,8 +152,8 @@ fn check_cases(
     number: usize,
     cases: &[SwitchCase],
 ) -> Result<usize, Misfit>
-    ensures first { result_err result ≡ first_fault (cases_points asked.now.module.now asked.now.expressions
-        asked.now.earlier owner number (list_cases no_operands cases.now)) }
+    ensures first { Finds (FirstOf (cases_points asked.now.module.now asked.now.expressions
+        asked.now.earlier owner number (list_cases no_operands cases.now))) result }
     ensures after { IfOk result (λ after. after ≡ after_cases number (list_cases no_operands cases.now)) }
 {
     let mut after = number;
@@ -173,9 +172,9 @@ fn check_statement(
     number: usize,
     located: &Located,
 ) -> Result<usize, Misfit>
-    ensures first { result_err result ≡ first_fault (statement_points asked.now.module.now asked.now.expressions
+    ensures first { Finds (FirstOf (statement_points asked.now.module.now asked.now.expressions
         asked.now.earlier owner number
-        (tree_of no_operands located.now.statement located.now.span)) }
+        (tree_of no_operands located.now.statement located.now.span))) result }
     ensures after { IfOk result (λ after. after
         ≡ after_statement number (tree_of no_operands located.now.statement located.now.span)) }
 {

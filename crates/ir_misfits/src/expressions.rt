@@ -1,12 +1,12 @@
 //! Whether expressions fit, and what doesn't fit of them.
 
 ghost use Rattle.std.specs.Prelude.{◌<◌, ◌≡◌, ◌↔◌, IsTrue, IsSomeAnd, All, slice_get};
-ghost use Rattle.std.specs.Result.{result_err};
-ghost use Rattle.ir_arena.specs.Points.{first_fault, points_of_each};
+ghost use Rattle.ir_arena.specs.Points.{points_of_each};
 ghost use Rattle.ir_module.specs.Operands.{operands_of};
 ghost use Rattle.ir_facts.specs.Fits.{NameEarlierExpressions, ReferencesFit};
-ghost use Rattle.ir_misfits.specs.Points.{points_if};
+ghost use Rattle.ir_misfits.specs.MisfitPoints.{points_if};
 ghost use Rattle.ir_misfits.specs.OfExpressions.{expressions_of, operand_points, operands_points, expressions_points, reference_points};
+ghost use Rattle.ir_facts.specs.Answers.{Finds, FirstOf};
 
 use crate::misfit::{HandleOf, Misfit, Owner, Place};
 use crate::signature::{callee_fits, check_callee};
@@ -32,8 +32,8 @@ fn check_operand(
     expression: &Expression,
     index: usize,
 ) -> Result<(), Misfit>
-    ensures { result_err result ≡ first_fault (points_if (operand_points owner place index)
-        (slice_get (operands_of expression.now) index)) }
+    ensures { Finds (FirstOf (points_if (operand_points owner place index)
+        (slice_get (operands_of expression.now) index))) result }
 {
     match operand(expression, index) {
         Some(handle) => Place::Operand(owner, place, index).names(
@@ -81,7 +81,7 @@ pub fn name_earlier_expressions(expressions: &[Expression]) -> bool
 
 /// Each operand of the expression at `place` is an earlier expression.
 fn check_operands(owner: Owner, place: usize, expression: &Expression) -> Result<(), Misfit>
-    ensures { result_err result ≡ first_fault (operands_points owner place expression.now) }
+    ensures { Finds (FirstOf (operands_points owner place expression.now)) result }
 {
     for index in 0..operand_count(expression) {
         check_operand(owner, place, expression, index)?;
@@ -91,7 +91,7 @@ fn check_operands(owner: Owner, place: usize, expression: &Expression) -> Result
 
 /// Each operand of each expression is an earlier one.
 pub fn check_expressions(owner: Owner, expressions: &[Expression]) -> Result<(), Misfit>
-    ensures { result_err result ≡ first_fault (expressions_points owner expressions.now) }
+    ensures { Finds (FirstOf (expressions_points owner expressions.now)) result }
 {
     // (asked first for its time: room for a misfit costs more than to see that there is none)
     if name_earlier_expressions(expressions) {
@@ -104,7 +104,7 @@ pub fn check_expressions(owner: Owner, expressions: &[Expression]) -> Result<(),
 #[cold]
 #[inline(never)]
 fn first_misfit_of_expressions(owner: Owner, expressions: &[Expression]) -> Result<(), Misfit>
-    ensures { result_err result ≡ first_fault (expressions_points owner expressions.now) }
+    ensures { Finds (FirstOf (expressions_points owner expressions.now)) result }
 {
     for (place, expression) in expressions.iter().enumerate() {
         check_operands(owner, place, expression)?;
@@ -171,7 +171,7 @@ fn check_reference(
     fun: &Function,
     module: &Module,
 ) -> Result<(), Misfit>
-    ensures { result_err result ≡ first_fault (reference_points «module».now fun.now owner place expression.now) }
+    ensures { Finds (FirstOf (reference_points «module».now fun.now owner place expression.now)) result }
 {
     let place = Place::Reference(owner, place);
     match expression {
@@ -233,8 +233,7 @@ pub fn check_references(
     fun: &Function,
     module: &Module,
 ) -> Result<(), Misfit>
-    ensures { result_err result
-        ≡ first_fault (points_of_each (reference_points «module».now fun.now owner) expressions.now) }
+    ensures { Finds (FirstOf (points_of_each (reference_points «module».now fun.now owner) expressions.now)) result }
 {
     for (place, expression) in expressions.iter().enumerate() {
         check_reference(owner, place, expression, fun, module)?;

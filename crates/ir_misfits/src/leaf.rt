@@ -1,10 +1,9 @@
 //! What doesn't fit of a statement that is neither a jump nor holds others.
 
-ghost use Rattle.std.specs.Prelude.{◌<◌, ◌≡◌, ◌↔◌, IsTrue, IfSome, All};
-ghost use Rattle.std.specs.Result.{result_err};
-ghost use Rattle.ir_arena.specs.Points.{first_fault};
+ghost use Rattle.std.specs.Prelude.{◌<◌, ◌↔◌, IsTrue, IfSome, All};
 ghost use Rattle.ir_facts.specs.FitsBody.{CalleeFits, LeafFits};
 ghost use Rattle.ir_misfits.specs.OfBodies.{call_points, leaf_points};
+ghost use Rattle.ir_facts.specs.Answers.{Finds, FirstOf};
 
 use crate::misfit::{HandleOf, Misfit, Owner, Place, StatementField};
 use crate::naming::is_below_if_any;
@@ -72,8 +71,8 @@ fn check_call(
     arguments: &[Handle<tag::Expression>],
     answer: Option<Handle<tag::Expression>>,
 ) -> Result<(), Misfit>
-    ensures { result_err result ≡ first_fault (call_points asked.now.module.now asked.now.expressions
-        asked.now.earlier owner number function arguments.now answer) }
+    ensures { Finds (FirstOf (call_points asked.now.module.now asked.now.expressions
+        asked.now.earlier owner number function arguments.now answer)) result }
 {
     let place = Place::InStatement(owner, number, StatementField::Function);
     let statement = Numbered {
@@ -95,8 +94,8 @@ pub(crate) fn check_leaf(
     number: usize,
     statement: &Statement,
 ) -> Result<(), Misfit>
-    ensures { result_err result ≡ first_fault (leaf_points asked.now.module.now asked.now.expressions
-        asked.now.earlier owner number statement.now) }
+    ensures { Finds (FirstOf (leaf_points asked.now.module.now asked.now.expressions
+        asked.now.earlier owner number statement.now)) result }
 {
     let this = Numbered {
         owner,

@@ -1,5 +1,5 @@
-//! What doesn't fit in a module: misfits with their places and texts, those of signatures, expressions and statements, and which
-//! recorded facts are short. Nothing allocates. Users import these from `naga_module`.
+//! What doesn't fit in a module: misfits with their places and texts, and recorded facts that are short.
+//! Of signatures, expressions and statements the misfits are found here. Nothing allocates. Users import these from `naga_module`.
 #![tactic(auto)]
 
 mod body;

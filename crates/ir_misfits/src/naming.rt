@@ -1,9 +1,8 @@
 //! Whether a handle that stands at a place names something there.
 
 ghost use Rattle.std.specs.Prelude.{◌≡◌, ◌<◌, ◌↔◌, IsTrue, IfSome, [], ◌∷◌};
-ghost use Rattle.std.specs.Result.{result_err};
-ghost use Rattle.ir_arena.specs.Points.{first_fault};
-ghost use Rattle.ir_misfits.specs.Points.{named, named_if, counted};
+ghost use Rattle.ir_misfits.specs.MisfitPoints.{named, named_if, counted};
+ghost use Rattle.ir_facts.specs.Answers.{Finds, FirstOf};
 
 use crate::misfit::{HandleOf, Misfit, Place, Problem};
 use ir_arena::handle::Handle;
@@ -31,7 +30,7 @@ impl Place {
 
     /// The handle with this index stands here, and only those below `below` may.
     pub fn names(self, of: HandleOf, index: usize, below: usize) -> Result<(), Misfit>
-        ensures { result_err result ≡ first_fault (named self of below index ∷ []) }
+        ensures { Finds (FirstOf (named self of below index ∷ [])) result }
     {
         if index < below {
             return Ok(());
@@ -46,7 +45,7 @@ impl Place {
         handle: Option<Handle<T>>,
         below: usize,
     ) -> Result<(), Misfit>
-        ensures { result_err result ≡ first_fault (named_if self of below handle) }
+        ensures { Finds (FirstOf (named_if self of below handle)) result }
     {
         match handle {
             Some(handle) => self.names(of, handle.index(), below),
@@ -56,7 +55,7 @@ impl Place {
 
     /// A list of this length stands here, and 32 bits have to count its items.
     pub fn counts(self, found: usize) -> Result<(), Misfit>
-        ensures { result_err result ≡ first_fault (counted self found ∷ []) }
+        ensures { Finds (FirstOf (counted self found ∷ [])) result }
     {
         if found <= u32::MAX as usize {
             return Ok(());

@@ -1,9 +1,8 @@
 //! The fields of a statement, by its number: one check list a kind.
 
-ghost use Rattle.std.specs.Prelude.{◌≡◌};
-ghost use Rattle.std.specs.Result.{result_err};
-ghost use Rattle.ir_arena.specs.Points.{first_fault, points_of_each};
+ghost use Rattle.ir_arena.specs.Points.{points_of_each};
 ghost use Rattle.ir_misfits.specs.OfBodies.{names, names_if, atomic_points, gather_points, query_points, pipeline_points, range_points, store_points, image_store_points, operation_points, image_operation_points, texel_operation_points, uniform_load_points, ray_query_points, ballot_points, collective_points, gathering_points, cooperative_store_points, call_argument_points};
+ghost use Rattle.ir_facts.specs.Answers.{Finds, FirstOf};
 
 use crate::misfit::{HandleOf, Misfit, Owner, Place, Problem, StatementField};
 use ir_arena::handle::Handle;
@@ -27,7 +26,7 @@ impl Numbered {
         field: StatementField,
         handle: Handle<tag::Expression>,
     ) -> Result<(), Misfit>
-        ensures { result_err result ≡ first_fault (names self.expressions self.owner self.number field handle) }
+        ensures { Finds (FirstOf (names self.expressions self.owner self.number field handle)) result }
     {
         Place::InStatement(self.owner, self.number, field).names(
             HandleOf::Expressions,
@@ -41,7 +40,7 @@ impl Numbered {
         field: StatementField,
         handle: Option<Handle<tag::Expression>>,
     ) -> Result<(), Misfit>
-        ensures { result_err result ≡ first_fault (names_if self.expressions self.owner self.number field handle) }
+        ensures { Finds (FirstOf (names_if self.expressions self.owner self.number field handle)) result }
     {
         match handle {
             Some(handle) => self.names(field, handle),
@@ -51,7 +50,7 @@ impl Numbered {
 
     /// What an exchange compares with.
     pub(crate) fn check_atomic(self, fun: AtomicFunction) -> Result<(), Misfit>
-        ensures { result_err result ≡ first_fault (atomic_points self.expressions self.owner self.number fun) }
+        ensures { Finds (FirstOf (atomic_points self.expressions self.owner self.number fun)) result }
     {
         match fun {
             AtomicFunction::Exchange { compare } => {
@@ -69,7 +68,7 @@ impl Numbered {
 
     /// The index of a gather, if its mode has one.
     pub(crate) fn check_gather(self, mode: GatherMode) -> Result<(), Misfit>
-        ensures { result_err result ≡ first_fault (gather_points self.expressions self.owner self.number mode) }
+        ensures { Finds (FirstOf (gather_points self.expressions self.owner self.number mode)) result }
     {
         match mode {
             GatherMode::BroadcastFirst | GatherMode::QuadSwap(_) => Ok(()),
@@ -84,7 +83,7 @@ impl Numbered {
 
     /// A step of a ray query.
     pub(crate) fn check_query(self, fun: RayQueryFunction) -> Result<(), Misfit>
-        ensures { result_err result ≡ first_fault (query_points self.expressions self.owner self.number fun) }
+        ensures { Finds (FirstOf (query_points self.expressions self.owner self.number fun)) result }
     {
         match fun {
             RayQueryFunction::Initialize {
@@ -109,7 +108,7 @@ impl Numbered {
 
     /// A ray that is traced.
     pub(crate) fn check_pipeline(self, fun: RayPipelineFunction) -> Result<(), Misfit>
-        ensures { result_err result ≡ first_fault (pipeline_points self.expressions self.owner self.number fun) }
+        ensures { Finds (FirstOf (pipeline_points self.expressions self.owner self.number fun)) result }
     {
         match fun {
             RayPipelineFunction::TraceRay {
@@ -129,7 +128,7 @@ impl Numbered {
 
     /// The range of an Emit is in order, and ends within the expressions.
     pub(crate) fn check_range(self, range: Range) -> Result<(), Misfit>
-        ensures { result_err result ≡ first_fault (range_points self.expressions self.owner self.number range) }
+        ensures { Finds (FirstOf (range_points self.expressions self.owner self.number range)) result }
     {
         let place = Place::InStatement(self.owner, self.number, StatementField::Range);
         let start = range.start as usize;
@@ -149,8 +148,8 @@ impl Numbered {
         self,
         arguments: &[Handle<tag::Expression>],
     ) -> Result<(), Misfit>
-        ensures { result_err result ≡ first_fault (points_of_each
-            (call_argument_points self.expressions self.owner self.number) arguments.now) }
+        ensures { Finds (FirstOf (points_of_each
+            (call_argument_points self.expressions self.owner self.number) arguments.now)) result }
     {
         for (index, handle) in arguments.iter().enumerate() {
             self.names(StatementField::CallArgument(index), *handle)?;
@@ -164,7 +163,7 @@ impl Numbered {
         pointer: Handle<tag::Expression>,
         value: Handle<tag::Expression>,
     ) -> Result<(), Misfit>
-        ensures { result_err result ≡ first_fault (store_points self.expressions self.owner self.number pointer value) }
+        ensures { Finds (FirstOf (store_points self.expressions self.owner self.number pointer value)) result }
     {
         self.names(StatementField::Pointer, pointer)?;
         self.names(StatementField::Value, value)
@@ -178,7 +177,7 @@ impl Numbered {
         array_index: Option<Handle<tag::Expression>>,
         value: Handle<tag::Expression>,
     ) -> Result<(), Misfit>
-        ensures { result_err result ≡ first_fault (image_store_points self.expressions self.owner self.number image coordinate array_index value) }
+        ensures { Finds (FirstOf (image_store_points self.expressions self.owner self.number image coordinate array_index value)) result }
     {
         self.names(StatementField::Image, image)?;
         self.names(StatementField::Coordinate, coordinate)?;
@@ -194,7 +193,7 @@ impl Numbered {
         value: Handle<tag::Expression>,
         answer: Option<Handle<tag::Expression>>,
     ) -> Result<(), Misfit>
-        ensures { result_err result ≡ first_fault (operation_points self.expressions self.owner self.number pointer fun value answer) }
+        ensures { Finds (FirstOf (operation_points self.expressions self.owner self.number pointer fun value answer)) result }
     {
         self.names(StatementField::Pointer, pointer)?;
         self.check_atomic(fun)?;
@@ -211,7 +210,7 @@ impl Numbered {
         fun: AtomicFunction,
         value: Handle<tag::Expression>,
     ) -> Result<(), Misfit>
-        ensures { result_err result ≡ first_fault (image_operation_points self.expressions self.owner self.number image coordinate array_index fun value) }
+        ensures { Finds (FirstOf (image_operation_points self.expressions self.owner self.number image coordinate array_index fun value)) result }
     {
         self.names(StatementField::Image, image)?;
         self.names(StatementField::Coordinate, coordinate)?;
@@ -226,7 +225,7 @@ impl Numbered {
         fun: AtomicFunction,
         value: Handle<tag::Expression>,
     ) -> Result<(), Misfit>
-        ensures { result_err result ≡ first_fault (texel_operation_points self.expressions self.owner self.number fun value) }
+        ensures { Finds (FirstOf (texel_operation_points self.expressions self.owner self.number fun value)) result }
     {
         self.check_atomic(fun)?;
         self.names(StatementField::Value, value)
@@ -238,7 +237,7 @@ impl Numbered {
         pointer: Handle<tag::Expression>,
         answer: Handle<tag::Expression>,
     ) -> Result<(), Misfit>
-        ensures { result_err result ≡ first_fault (uniform_load_points self.expressions self.owner self.number pointer answer) }
+        ensures { Finds (FirstOf (uniform_load_points self.expressions self.owner self.number pointer answer)) result }
     {
         self.names(StatementField::Pointer, pointer)?;
         self.names(StatementField::Result, answer)
@@ -250,7 +249,7 @@ impl Numbered {
         query: Handle<tag::Expression>,
         fun: RayQueryFunction,
     ) -> Result<(), Misfit>
-        ensures { result_err result ≡ first_fault (ray_query_points self.expressions self.owner self.number query fun) }
+        ensures { Finds (FirstOf (ray_query_points self.expressions self.owner self.number query fun)) result }
     {
         self.names(StatementField::Query, query)?;
         self.check_query(fun)
@@ -262,7 +261,7 @@ impl Numbered {
         answer: Handle<tag::Expression>,
         predicate: Option<Handle<tag::Expression>>,
     ) -> Result<(), Misfit>
-        ensures { result_err result ≡ first_fault (ballot_points self.expressions self.owner self.number answer predicate) }
+        ensures { Finds (FirstOf (ballot_points self.expressions self.owner self.number answer predicate)) result }
     {
         self.names(StatementField::Result, answer)?;
         self.names_if_any(StatementField::Predicate, predicate)
@@ -274,7 +273,7 @@ impl Numbered {
         argument: Handle<tag::Expression>,
         answer: Handle<tag::Expression>,
     ) -> Result<(), Misfit>
-        ensures { result_err result ≡ first_fault (collective_points self.expressions self.owner self.number argument answer) }
+        ensures { Finds (FirstOf (collective_points self.expressions self.owner self.number argument answer)) result }
     {
         self.names(StatementField::Argument, argument)?;
         self.names(StatementField::Result, answer)
@@ -288,7 +287,7 @@ impl Numbered {
         argument: Handle<tag::Expression>,
         answer: Handle<tag::Expression>,
     ) -> Result<(), Misfit>
-        ensures { result_err result ≡ first_fault (gathering_points self.expressions self.owner self.number mode argument answer) }
+        ensures { Finds (FirstOf (gathering_points self.expressions self.owner self.number mode argument answer)) result }
     {
         self.check_gather(mode)?;
         self.names(StatementField::Argument, argument)?;
@@ -301,7 +300,7 @@ impl Numbered {
         target: Handle<tag::Expression>,
         source: Handle<tag::Expression>,
     ) -> Result<(), Misfit>
-        ensures { result_err result ≡ first_fault (cooperative_store_points self.expressions self.owner self.number target source) }
+        ensures { Finds (FirstOf (cooperative_store_points self.expressions self.owner self.number target source)) result }
     {
         self.names(StatementField::Target, target)?;
         self.names(StatementField::Source, source)

@@ -2,10 +2,10 @@
 
 ghost use Rattle.std.specs.Prelude.{◌≡◌, ◌∷◌, ◌==◌, [], nat_lt, nat_le, slice_get};
 ghost use Rattle.std.specs.Option.{option_copied};
-ghost use Rattle.std.specs.Result.{result_err};
 ghost use Rattle.ir_arena.specs.Points.{first_fault, points_of_each};
 ghost use Rattle.ir_misfits.specs.declared.shortage.Shortage.TheVariants.{Types, Uses, UnknownType, Expressions};
 ghost use Rattle.ir_misfits.specs.ShortFacts.{type_points, info_points, fact_points, function_shortages, entry_shortages, shortages};
+ghost use Rattle.ir_facts.specs.Answers.{Finds, FirstOf};
 
 use crate::misfit::Owner;
 use crate::shortage::Shortage;
@@ -32,8 +32,7 @@ pub fn find_short_fact(facts: &Facts, module: &Module, owner: Owner) -> Option<S
 }
 
 fn check_function(facts: &Facts, module: &Module, index: usize) -> Result<(), Shortage>
-    ensures { result_err result
-        ≡ first_fault (function_shortages facts.now «module».now index (slice_get «module».now.functions index)) }
+    ensures { Finds (FirstOf (function_shortages facts.now «module».now index (slice_get «module».now.functions index))) result }
 {
     match module.functions.as_slice().get(index) {
         Some(fun) => check_fact(
@@ -48,8 +47,7 @@ fn check_function(facts: &Facts, module: &Module, index: usize) -> Result<(), Sh
 }
 
 fn check_entry_point(facts: &Facts, module: &Module, index: usize) -> Result<(), Shortage>
-    ensures { result_err result
-        ≡ first_fault (entry_shortages facts.now «module».now index (slice_get «module».now.entry_points index)) }
+    ensures { Finds (FirstOf (entry_shortages facts.now «module».now index (slice_get «module».now.entry_points index))) result }
 {
     match module.entry_points.as_slice().get(index) {
         Some(ep) => check_fact(
@@ -71,7 +69,7 @@ fn check_fact(
     found: usize,
     wanted: usize,
 ) -> Result<(), Shortage>
-    ensures { result_err result ≡ first_fault (fact_points «module».now fun.now found wanted (option_copied fact.entry)) }
+    ensures { Finds (FirstOf (fact_points «module».now fun.now found wanted (option_copied fact.entry))) result }
 {
     match fact {
         Some(FunctionFact::Info(info)) => check_info(info, fun, module),
@@ -83,7 +81,7 @@ fn check_fact(
 /// An info has as many types, uses and facts of expressions as it needs, and its types keep the laws.
 #[tactic(auto, using(ir_arena::proofs::Points::first_of_both))]
 fn check_info(info: &InfoFact, fun: &Function, module: &Module) -> Result<(), Shortage>
-    ensures { result_err result ≡ first_fault (info_points «module».now fun.now info.now) }
+    ensures { Finds (FirstOf (info_points «module».now fun.now info.now)) result }
 {
     let wanted = fun.expressions.len();
     check_count(info.types.len(), wanted)?;
@@ -93,7 +91,7 @@ fn check_info(info: &InfoFact, fun: &Function, module: &Module) -> Result<(), Sh
 }
 
 fn check_count(found: usize, wanted: usize) -> Result<(), Shortage>
-    ensures { result_err result ≡ first_fault ((found == wanted, Types found wanted) ∷ []) }
+    ensures { Finds (FirstOf ((found == wanted, Types found wanted) ∷ [])) result }
 {
     if found == wanted {
         return Ok(());
@@ -102,7 +100,7 @@ fn check_count(found: usize, wanted: usize) -> Result<(), Shortage>
 }
 
 fn check_enough(found: usize, wanted: usize) -> Result<(), Shortage>
-    ensures { result_err result ≡ first_fault ((nat_le wanted found, Expressions found wanted) ∷ []) }
+    ensures { Finds (FirstOf ((nat_le wanted found, Expressions found wanted) ∷ [])) result }
 {
     if wanted <= found {
         return Ok(());
@@ -111,7 +109,7 @@ fn check_enough(found: usize, wanted: usize) -> Result<(), Shortage>
 }
 
 fn check_uses(found: usize, wanted: usize) -> Result<(), Shortage>
-    ensures { result_err result ≡ first_fault ((found == wanted, Uses found wanted) ∷ []) }
+    ensures { Finds (FirstOf ((found == wanted, Uses found wanted) ∷ [])) result }
 {
     if found == wanted {
         return Ok(());
@@ -121,7 +119,7 @@ fn check_uses(found: usize, wanted: usize) -> Result<(), Shortage>
 
 /// The type of each expression names types that are there, and is no struct as a value.
 fn check_types(types: &[TypeResolution], below: usize) -> Result<(), Shortage>
-    ensures { result_err result ≡ first_fault (points_of_each (type_points below) types.now) }
+    ensures { Finds (FirstOf (points_of_each (type_points below) types.now)) result }
 {
     for (place, resolution) in types.iter().enumerate() {
         check_type(place, resolution, below)?;
@@ -130,7 +128,7 @@ fn check_types(types: &[TypeResolution], below: usize) -> Result<(), Shortage>
 }
 
 fn check_type(expression: usize, resolution: &TypeResolution, below: usize) -> Result<(), Shortage>
-    ensures { result_err result ≡ first_fault (type_points below expression resolution.now) }
+    ensures { Finds (FirstOf (type_points below expression resolution.now)) result }
 {
     match resolution {
         TypeResolution::Handle(ty) => check_known(expression, ty.index(), below),
@@ -148,7 +146,7 @@ fn check_type(expression: usize, resolution: &TypeResolution, below: usize) -> R
 
 /// The type with this index is one of so many.
 fn check_known(expression: usize, ty: usize, below: usize) -> Result<(), Shortage>
-    ensures { result_err result ≡ first_fault ((nat_lt ty below, UnknownType expression ty below) ∷ []) }
+    ensures { Finds (FirstOf ((nat_lt ty below, UnknownType expression ty below) ∷ [])) result }
 {
     if ty < below {
         return Ok(());

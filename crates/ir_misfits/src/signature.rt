@@ -1,10 +1,10 @@
 //! Whether the signature of a function fits, and what doesn't fit of it.
 
-ghost use Rattle.std.specs.Prelude.{◌≡◌, ◌<◌, ◌↔◌, IsTrue, IfSome, All};
-ghost use Rattle.std.specs.Result.{result_err};
-ghost use Rattle.ir_arena.specs.Points.{first_fault, points_of_each};
+ghost use Rattle.std.specs.Prelude.{◌<◌, ◌↔◌, IsTrue, IfSome, All};
+ghost use Rattle.ir_arena.specs.Points.{points_of_each};
 ghost use Rattle.ir_facts.specs.FitsBody.{SignatureFits, CalleeFits};
 ghost use Rattle.ir_misfits.specs.OfSignatures.{argument_points, outcome_points, signature_points, callee_points};
+ghost use Rattle.ir_facts.specs.Answers.{Finds, FirstOf};
 
 use crate::misfit::{HandleOf, Misfit, Owner, Place};
 use ir_arena::handle::Handle;
@@ -41,7 +41,7 @@ pub fn signature_fits(fun: &Function, module: &Module) -> bool
 
 /// Of so many types: that of each argument is there.
 fn check_arguments(owner: Owner, arguments: &[FunctionArgument], types: usize) -> Result<(), Misfit>
-    ensures { result_err result ≡ first_fault (points_of_each (argument_points owner types) arguments.now) }
+    ensures { Finds (FirstOf (points_of_each (argument_points owner types) arguments.now)) result }
 {
     for (place, argument) in arguments.iter().enumerate() {
         Place::ArgumentType(owner, place).names(HandleOf::Types, argument.ty.index(), types)?;
@@ -51,7 +51,7 @@ fn check_arguments(owner: Owner, arguments: &[FunctionArgument], types: usize) -
 
 /// And that of the result.
 fn check_outcome(owner: Owner, outcome: Option<FunctionResult>, types: usize) -> Result<(), Misfit>
-    ensures { result_err result ≡ first_fault (outcome_points owner types outcome) }
+    ensures { Finds (FirstOf (outcome_points owner types outcome)) result }
 {
     match outcome {
         Some(outcome) => Place::ResultType(owner).names(HandleOf::Types, outcome.ty.index(), types),
@@ -62,7 +62,7 @@ fn check_outcome(owner: Owner, outcome: Option<FunctionResult>, types: usize) ->
 /// 32 bits count the arguments; their types are there, and that of the result.
 #[tactic(auto, using(ir_arena::proofs::Points::first_of_both))]
 pub fn check_signature(owner: Owner, fun: &Function, module: &Module) -> Result<(), Misfit>
-    ensures { result_err result ≡ first_fault (signature_points «module».now owner fun.now) }
+    ensures { Finds (FirstOf (signature_points «module».now owner fun.now)) result }
 {
     Place::Arguments(owner).counts(fun.arguments.len())?;
     check_arguments(owner, fun.arguments.as_slice(), module.types.len())?;
@@ -75,7 +75,7 @@ pub(crate) fn check_callee(
     function: Handle<tag::Function>,
     module: &Module,
 ) -> Result<(), Misfit>
-    ensures { result_err result ≡ first_fault (callee_points «module».now place function) }
+    ensures { Finds (FirstOf (callee_points «module».now place function)) result }
 {
     place.names(
         HandleOf::Functions,

@@ -1,11 +1,10 @@
 //! Whether the statements of a function fit, and what doesn't fit of them.
 
-ghost use Rattle.std.specs.Prelude.{◌≡◌, ◌↔◌, IsTrue, length};
-ghost use Rattle.std.specs.Result.{result_err};
-ghost use Rattle.ir_arena.specs.Points.{first_fault};
+ghost use Rattle.std.specs.Prelude.{◌↔◌, IsTrue, length};
 ghost use Rattle.ir_statements.specs.View.{no_operands, body_of};
 ghost use Rattle.ir_facts.specs.FitsBody.{BodyFits};
 ghost use Rattle.ir_misfits.specs.OfBodies.{body_points};
+ghost use Rattle.ir_facts.specs.Answers.{Finds, FirstOf};
 
 use crate::body::{block_fits, check_block};
 use crate::leaf::Asked;
@@ -34,8 +33,8 @@ pub fn check_body(
     module: &Module,
     earlier: usize,
 ) -> Result<(), Misfit>
-    ensures { result_err result ≡ first_fault (body_points «module».now (length fun.now.expressions) earlier owner 0
-        (body_of no_operands fun.now.body)) }
+    ensures { Finds (FirstOf (body_points «module».now (length fun.now.expressions) earlier owner 0
+        (body_of no_operands fun.now.body))) result }
 {
     let asked = Asked {
         module,

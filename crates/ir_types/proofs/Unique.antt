@@ -7,7 +7,7 @@ use Rattle.std.specs.Hash.{HashWrites}
 use Rattle.std.specs.Option.{ForSome, option_map}
 use Rattle.ir_arena.proofs.Links.{slice_get_left, slice_get_last}
 use Rattle.ir_arena.specs.Limits.{max_len}
-use Rattle.ir_arena.specs.Positions.{past, IsLastBefore}
+use Rattle.ir_arena.specs.LastPlaces.{past, IsLastBefore}
 use Rattle.ir_types.specs.Unique.{AreDistinct, AreKept, hash_of}
 
 -- a value that stands at a place is in the list

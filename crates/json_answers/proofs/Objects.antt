@@ -24,7 +24,8 @@ whole (Some id) name value old =
     (append_assoc (json_tokens (id_form id)) (token.key name ∷ []) (json_tokens value ++ token.end_object ∷ []))
 
 -- what begins it with an id
-pub opened_with : {E : Type 0} (r : Result (Unit {0}) E) (id : Id) (o : Option Id) (name : List ℕ) (old begun put new : List Token) → o ≡ Some id
+pub opened_with : {E : Type 0} (r : Result (Unit {0}) E) (id : Id) (o : Option Id) (name : List ℕ)
+    (old begun put new : List Token) → o ≡ Some id
     → begun ≡ old ++ token.begin_object ∷ token.key (codes "id") ∷ [] → put ≡ begun ++ json_tokens (id_form id)
     → OnOk r (new ≡ put ++ token.key name ∷ []) → OnOk r (new ≡ old ++ opening o name)
 opened_with (Ok unit) id o name old begun put new is begins puts ends =
@@ -33,7 +34,8 @@ opened_with (Ok unit) id o name old begun put new is begins puts ends =
     ∙ append_assoc old opens (json_tokens (id_form id) ++ token.key name ∷ []))
 opened_with (Err e) id o name old begun put new is begins puts ends = tt
 
-pub written : {E : Type 0} (r : Result (Unit {0}) E) (id : Option Id) (name : List ℕ) (value : Json) (old opened valued new : List Token)
+pub written : {E : Type 0} (r : Result (Unit {0}) E) (id : Option Id) (name : List ℕ) (value : Json)
+    (old opened valued new : List Token)
     → opened ≡ old ++ opening id name → valued ≡ opened ++ json_tokens value → OnOk r (new ≡ valued ++ token.end_object ∷ [])
     → Writes r old new (maybe_with_id id (holding name value))
 unfolding holding

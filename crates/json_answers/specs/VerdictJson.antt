@@ -81,21 +81,24 @@ verdict_form spans place misfit (verdict.Accepted m infos) = infos_form infos
 verdict_form spans place misfit (verdict.Refused fault) = refused_form spans place misfit fault
 verdict_form spans place misfit (verdict.Unreadable unreadable) = unreadable_form unreadable
 
--- The text is the JSON of the verdict, with this misfit, and with the id as its first field. Contracts see neither the spans nor the
--- place of a fault: there are some with which it is.
+-- The text is the JSON of the verdict, with this misfit, and with the id as its first field. Contracts see neither the spans nor
+-- the place of a fault: there are some with which it is.
 abbrev pub IsJsonOf : Option Id → judge.Verdict → Option Misfit → List ℕ → Type 0
 IsJsonOf id v misfit text =
     (spans : List Span) × (place : Option (List ℕ)) × (text ≡ json_text (maybe_with_id id (verdict_form spans place misfit v)))
 
 -- the same as tokens that were written after others; or there was no memory
-abbrev pub WritesPlaced : {E : Type 0} → Result (Unit {0}) E → List Token → List Token → Option Id → Json → Json → List Span → Type 0
+abbrev pub WritesPlaced : {E : Type 0} → Result (Unit {0}) E → List Token → List Token
+    → Option Id → Json → Json → List Span → Type 0
 WritesPlaced r old new id at fault spans =
     (place : Option (List ℕ)) × Writes r old new (maybe_with_id id (fault_form at fault spans place))
 
-abbrev pub WritesFault : {E : Type 0} → Result (Unit {0}) E → List Token → List Token → Option Id → Option Misfit → ModuleFault → Type 0
+abbrev pub WritesFault : {E : Type 0} → Result (Unit {0}) E → List Token → List Token
+    → Option Id → Option Misfit → ModuleFault → Type 0
 WritesFault r old new id misfit fault =
     (spans : List Span) × (place : Option (List ℕ)) × Writes r old new (maybe_with_id id (refused_form spans place misfit fault))
 
-abbrev pub WritesVerdict : {E : Type 0} → Result (Unit {0}) E → List Token → List Token → Option Id → judge.Verdict → Option Misfit → Type 0
+abbrev pub WritesVerdict : {E : Type 0} → Result (Unit {0}) E → List Token → List Token
+    → Option Id → judge.Verdict → Option Misfit → Type 0
 WritesVerdict r old new id v misfit =
     (spans : List Span) × (place : Option (List ℕ)) × Writes r old new (maybe_with_id id (verdict_form spans place misfit v))

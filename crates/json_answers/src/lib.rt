@@ -11,4 +11,4 @@ mod untyped;
 pub mod verdict;
 
 pub use crate::form::Form;
-pub use crate::verdict::{Examined, Refused, Verdict, alone};
+pub use crate::verdict::{Examined, RefusedModule, Verdict, alone};

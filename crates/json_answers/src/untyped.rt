@@ -1,6 +1,6 @@
 //! Why an expression of a refused module has no type.
 
-use crate::verdict::Refused;
+use crate::verdict::RefusedModule;
 use check_faults::{EntryPointError, ModuleFault};
 use layer_sentences::write_untyped;
 use naga_below::{ExpressionError, Function};
@@ -15,7 +15,7 @@ pub(crate) fn tell_untyped<W: fmt::Write>(
     alloc: Global,
     out: &mut W,
     fault: &ModuleFault,
-    refused: &Refused,
+    refused: &RefusedModule,
 ) -> fmt::Result {
     if !refused.is_computed {
         return Ok(());
@@ -40,7 +40,7 @@ pub(crate) fn tell_untyped<W: fmt::Write>(
 
 /// The function that has a fault, and the fault.
 fn refused_in<'a>(
-    refused: &'a Refused,
+    refused: &'a RefusedModule,
     fault: &'a ModuleFault,
 ) -> Option<(&'a Function, &'a FunctionError)> {
     let module = &refused.module;

@@ -58,12 +58,12 @@ pub struct Examined {
     /// Where the verdict is `NotFit`, the first thing that doesn't fit.
     pub misfit: Option<Misfit>,
     /// Of a module that was judged and refused.
-    pub refused: Option<Refused>,
+    pub refused: Option<RefusedModule>,
 }
 
 /// A refused module, and where its fault stands.
 #[derive(Drop)]
-pub struct Refused {
+pub struct RefusedModule {
     pub module: Module,
     /// Whether its facts were computed.
     pub is_computed: bool,
@@ -72,8 +72,8 @@ pub struct Refused {
 }
 
 /// Drops what is known of a refused module, as [`drop_module`] does a module.
-pub fn drop_refused(refused: Refused) {
-    let Refused {
+pub fn drop_refused(refused: RefusedModule) {
+    let RefusedModule {
         module,
         is_computed: _,
         found,

@@ -33,8 +33,8 @@ known_of d = made_of_six
     (codes "sizes") (list_of (optional u32_of)) (codes "mesh_analyses") (list_of (optional mesh_analysis_fact_of))
     (codes "functions") (list_of function_fact_of) (codes "entry_points") (list_of function_fact_of) d)
 
-abbrev pub Parts : Type 0
-Parts = ValidationFlags × Capabilities × ShaderStages × SubgroupOperationSet × Module × Option Known
+abbrev pub DocumentParts : Type 0
+DocumentParts = ValidationFlags × Capabilities × ShaderStages × SubgroupOperationSet × Module × Option Known
 
 abbrev pub settings_of : Data → Option (ValidationFlags × Capabilities × ShaderStages × SubgroupOperationSet)
 settings_of d =
@@ -45,21 +45,21 @@ settings_of d =
     Some (flags, capabilities, stages, operations)))))
 
 -- what the six fields of a document stand for, whatever stands beside them; the facts may be null
-abbrev pub all_parts : Data → Option Parts
+abbrev pub all_parts : Data → Option DocumentParts
 all_parts d =
     given (settings_of d) (λ s.
     given (field_of module_of (codes "module") d) (λ m.
     given (field_of (optional known_of) (codes "facts") d) (λ known. Some (s.0, s.1, s.2, s.3, m, known))))
 
 -- the same of an object with exactly these fields and an id
-abbrev pub named_parts : Data → Option Parts
+abbrev pub named_parts : Data → Option DocumentParts
 named_parts d =
     given (fields_of (codes "id" ∷ codes "flags" ∷ codes "capabilities" ∷ codes "subgroup_stages"
     ∷ codes "subgroup_operations" ∷ codes "module" ∷ codes "facts" ∷ []) d) (λ d.
     given (id_in d) (λ id. all_parts d))
 
 -- the same of an object with an id or without one
-abbrev pub parts_of : Data → Option Parts
+abbrev pub parts_of : Data → Option DocumentParts
 parts_of d =
     if has_field (codes "id") d then named_parts d else
     (six_fields (codes "flags") validation_flags_of (codes "capabilities") capabilities_of

@@ -67,7 +67,7 @@ impl FromJson<Documents> for Known {
 }
 
 /// What the fields of a document stand for, without its id.
-type Parts = (
+type DocumentParts = (
     ValidationFlags,
     Capabilities,
     ShaderStages,
@@ -109,7 +109,7 @@ fn read_settings(
 }
 
 /// The settings, the module and the facts, whatever stands beside them.
-fn read_all_parts(held: Held) -> Result<Parts, ReadError>
+fn read_all_parts(held: Held) -> Result<DocumentParts, ReadError>
     ensures { ReadsMeaning (all_parts (data_of held.entry.value.now)) result }
 {
     let (flags, capabilities, stages, operations) = match read_settings(held) {
@@ -126,7 +126,7 @@ fn read_all_parts(held: Held) -> Result<Parts, ReadError>
 }
 
 /// The same of an object with exactly these fields and an id.
-fn read_named_parts(held: Held) -> Result<Parts, ReadError>
+fn read_named_parts(held: Held) -> Result<DocumentParts, ReadError>
     ensures { ReadsMeaning (named_parts (data_of held.entry.value.now)) result }
 {
     if let Err(error) = held.fields(&[
@@ -147,7 +147,7 @@ fn read_named_parts(held: Held) -> Result<Parts, ReadError>
 }
 
 /// The same of an object with an id or without one.
-fn read_parts(held: Held) -> Result<Parts, ReadError>
+fn read_parts(held: Held) -> Result<DocumentParts, ReadError>
     ensures { ReadsMeaning (parts_of (data_of held.entry.value.now)) result }
 {
     if has_field(held.value, "id") {

@@ -2,8 +2,8 @@
 use Rattle.std.specs.Prelude.{ℕ, List, [], ◌∷◌, codes, ⊤}
 use Rattle.json_expressions.specs.declared.forms.LevelName.{LevelName}
 use Rattle.json_expressions.specs.declared.forms.LevelName.TheVariants as level_name
-use Rattle.json_expressions.specs.declared.forms.Table.{Table}
-use Rattle.json_expressions.specs.declared.forms.Table.TheVariants as table
+use Rattle.json_expressions.specs.declared.forms.NameTable.{NameTable}
+use Rattle.json_expressions.specs.declared.forms.NameTable.TheVariants as table
 
 abbrev pub vector_sizes : List (List ℕ × ℕ)
 vector_sizes = (codes "Bi", 0) ∷ (codes "Tri", 1) ∷ (codes "Quad", 2) ∷ []
@@ -88,7 +88,7 @@ math_functions =
     ∷ (codes "Unpack4xI8", 75) ∷ (codes "Unpack4xU8", 76) ∷ []
 
 -- the names of a table
-abbrev pub names_of : Table → List (List ℕ × ℕ)
+abbrev pub names_of : NameTable → List (List ℕ × ℕ)
 names_of table.VectorSize = vector_sizes
 names_of table.SwizzleSize = swizzle_sizes
 names_of table.UnaryOperator = unary_operators

@@ -12,7 +12,7 @@ use Rattle.json_expressions.specs.declared.forms.Field.TheVariants as field
 use Rattle.json_expressions.specs.declared.forms.LevelName.{LevelName}
 use Rattle.json_expressions.specs.declared.forms.LevelName.TheVariants as level_name
 use Rattle.json_expressions.specs.declared.forms.Piece.{Piece}
-use Rattle.json_expressions.specs.declared.forms.Table.TheVariants as table
+use Rattle.json_expressions.specs.declared.forms.NameTable.TheVariants as table
 use Rattle.json_values.specs.Form.{given, field_of, made_of_three, made_of_two, named, one_field, optional, three_fields, triple_in, two_fields}
 use Rattle.json_values.specs.ReadNumbers.{u8_of, u32_of}
 use Rattle.json_values.specs.Variants.{Variant, plain, holding, variant_of}

@@ -7,7 +7,7 @@ ghost use Rattle.json_values.specs.Form.{lookup, named};
 ghost use Rattle.json_values.specs.Reads.{ReadsMeaning, rows_of};
 ghost use Rattle.json_expressions.specs.FormNames.{math_functions, names_of};
 
-use crate::forms::Table;
+use crate::forms::NameTable;
 use json_nodes::Node;
 use json_values::{ReadError, read_name};
 use std::alloc::Global;
@@ -157,21 +157,25 @@ fn read_math_function(alloc: Global, value: &Node) -> Result<u32, ReadError>
 }
 
 /// What a text that is one of the names of a table counts.
-pub(crate) fn read_form_name(alloc: Global, value: &Node, table: Table) -> Result<u32, ReadError>
+pub(crate) fn read_form_name(
+    alloc: Global,
+    value: &Node,
+    table: NameTable,
+) -> Result<u32, ReadError>
     ensures { ReadsMeaning (named (names_of table) (data_of value.now)) result }
 {
     match table {
-        Table::VectorSize => read_name(alloc, value, &VECTOR_SIZES),
-        Table::SwizzleSize => read_name(alloc, value, &SWIZZLE_SIZES),
-        Table::UnaryOperator => read_name(alloc, value, &UNARY_OPERATORS),
-        Table::BinaryOperator => read_name(alloc, value, &BINARY_OPERATORS),
-        Table::DerivativeAxis => read_name(alloc, value, &DERIVATIVE_AXES),
-        Table::DerivativeControl => read_name(alloc, value, &DERIVATIVE_CONTROLS),
-        Table::RelationalFunction => read_name(alloc, value, &RELATIONAL_FUNCTIONS),
-        Table::MathFunction => read_math_function(alloc, value),
-        Table::ScalarKind => read_name(alloc, value, &SCALAR_KINDS),
-        Table::CooperativeColumns => read_name(alloc, value, &COOPERATIVE_COLUMNS),
-        Table::CooperativeRows => read_name(alloc, value, &COOPERATIVE_ROWS),
-        Table::CooperativeRole => read_name(alloc, value, &COOPERATIVE_ROLES),
+        NameTable::VectorSize => read_name(alloc, value, &VECTOR_SIZES),
+        NameTable::SwizzleSize => read_name(alloc, value, &SWIZZLE_SIZES),
+        NameTable::UnaryOperator => read_name(alloc, value, &UNARY_OPERATORS),
+        NameTable::BinaryOperator => read_name(alloc, value, &BINARY_OPERATORS),
+        NameTable::DerivativeAxis => read_name(alloc, value, &DERIVATIVE_AXES),
+        NameTable::DerivativeControl => read_name(alloc, value, &DERIVATIVE_CONTROLS),
+        NameTable::RelationalFunction => read_name(alloc, value, &RELATIONAL_FUNCTIONS),
+        NameTable::MathFunction => read_math_function(alloc, value),
+        NameTable::ScalarKind => read_name(alloc, value, &SCALAR_KINDS),
+        NameTable::CooperativeColumns => read_name(alloc, value, &COOPERATIVE_COLUMNS),
+        NameTable::CooperativeRows => read_name(alloc, value, &COOPERATIVE_ROWS),
+        NameTable::CooperativeRole => read_name(alloc, value, &COOPERATIVE_ROLES),
     }
 }

@@ -23,7 +23,7 @@ use std::alloc::{AllocError, Global};
 
 /// The names that a field chooses from.
 #[derive(Clone, Copy)]
-pub enum Table {
+pub enum NameTable {
     VectorSize,
     SwizzleSize,
     UnaryOperator,
@@ -46,7 +46,7 @@ pub enum Field {
     /// An operand, which counts so much; or null.
     Maybe(u32),
     /// One of these names.
-    Name(Table),
+    Name(NameTable),
     /// True, which counts so much; or false.
     Flag(u32),
     /// The component that is gathered, or null.
@@ -341,7 +341,7 @@ fn read_place(held: Held) -> Result<Piece, ReadError>
 }
 
 /// One of the names of a table.
-fn read_named(held: Held, table: Table) -> Result<Piece, ReadError>
+fn read_named(held: Held, table: NameTable) -> Result<Piece, ReadError>
     ensures { ReadsMeaning (option_map counted (named (names_of table) (data_of held.entry.value.now))) result }
 {
     match read_form_name(held.alloc, held.value, table) {

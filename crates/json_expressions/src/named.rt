@@ -5,28 +5,28 @@ ghost use Rattle.json_values.specs.Reads.{ReadsMeaning};
 ghost use Rattle.json_expressions.specs.Forms.{length_of, named_parts};
 
 use crate::expressions::{Expressions, Parts, PartsName};
-use crate::forms::{Field, Table, operand, read_form, with_piece};
+use crate::forms::{Field, NameTable, operand, read_form, with_piece};
 use ir_statements::Operands;
 use json_values::{Held, ReadError};
 
 const SPLAT: [(&str, Field); 2] = [
-    ("size", Field::Name(Table::VectorSize)),
+    ("size", Field::Name(NameTable::VectorSize)),
     ("value", Field::Operand),
 ];
 
 const SWIZZLE: [(&str, Field); 3] = [
-    ("size", Field::Name(Table::SwizzleSize)),
+    ("size", Field::Name(NameTable::SwizzleSize)),
     ("vector", Field::Operand),
     ("pattern", Field::Pattern),
 ];
 
 const UNARY: [(&str, Field); 2] = [
-    ("op", Field::Name(Table::UnaryOperator)),
+    ("op", Field::Name(NameTable::UnaryOperator)),
     ("expr", Field::Operand),
 ];
 
 const BINARY: [(&str, Field); 3] = [
-    ("op", Field::Name(Table::BinaryOperator)),
+    ("op", Field::Name(NameTable::BinaryOperator)),
     ("left", Field::Operand),
     ("right", Field::Operand),
 ];
@@ -38,18 +38,18 @@ const SELECT: [(&str, Field); 3] = [
 ];
 
 const DERIVATIVE: [(&str, Field); 3] = [
-    ("axis", Field::Name(Table::DerivativeAxis)),
-    ("ctrl", Field::Name(Table::DerivativeControl)),
+    ("axis", Field::Name(NameTable::DerivativeAxis)),
+    ("ctrl", Field::Name(NameTable::DerivativeControl)),
     ("expr", Field::Operand),
 ];
 
 const RELATIONAL: [(&str, Field); 2] = [
-    ("fun", Field::Name(Table::RelationalFunction)),
+    ("fun", Field::Name(NameTable::RelationalFunction)),
     ("argument", Field::Operand),
 ];
 
 const MATH: [(&str, Field); 5] = [
-    ("fun", Field::Name(Table::MathFunction)),
+    ("fun", Field::Name(NameTable::MathFunction)),
     ("arg", Field::Operand),
     ("arg1", Field::Maybe(0)),
     ("arg2", Field::Maybe(0)),
@@ -58,7 +58,7 @@ const MATH: [(&str, Field); 5] = [
 
 const CAST: [(&str, Field); 3] = [
     ("expr", Field::Operand),
-    ("kind", Field::Name(Table::ScalarKind)),
+    ("kind", Field::Name(NameTable::ScalarKind)),
     ("convert", Field::Width),
 ];
 
@@ -87,9 +87,9 @@ const IMAGE_QUERY: [(&str, Field); 2] = [("image", Field::Operand), ("query", Fi
 const RAY_QUERY: [(&str, Field); 2] = [("query", Field::Operand), ("committed", Field::Flag(1))];
 
 const COOPERATIVE_LOAD: [(&str, Field); 4] = [
-    ("columns", Field::Name(Table::CooperativeColumns)),
-    ("rows", Field::Name(Table::CooperativeRows)),
-    ("role", Field::Name(Table::CooperativeRole)),
+    ("columns", Field::Name(NameTable::CooperativeColumns)),
+    ("rows", Field::Name(NameTable::CooperativeRows)),
+    ("role", Field::Name(NameTable::CooperativeRole)),
     ("data", Field::Place),
 ];
 

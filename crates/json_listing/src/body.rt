@@ -2,8 +2,8 @@
 
 use crate::words::{write_number, write_part, write_spaces, write_statement};
 use json_nodes::Step;
-use json_places::nodes::way_to;
-use json_places::{Inside, Node, Part, Place, Position};
+use json_places::statements::way_to;
+use json_places::{Inside, JsonPointer, ListedStatement, Part, Position};
 use std::alloc::{AllocError, Global};
 use std::fmt;
 
@@ -24,13 +24,13 @@ impl Shown {
     /// numbers, with what holds them. An Err is out of memory.
     pub(crate) fn new(
         alloc: Global,
-        nodes: &[Node<'_>],
+        listed: &[ListedStatement<'_>],
         position: Option<Position>,
         named: &[usize],
     ) -> Result<Shown, AllocError> {
-        let is_short = nodes.len() <= SHORT;
-        let mut is_shown = Vec::with_capacity(alloc, nodes.len())?;
-        for number in 0..nodes.len() {
+        let is_short = listed.len() <= SHORT;
+        let mut is_shown = Vec::with_capacity(alloc, listed.len())?;
+        for number in 0..listed.len() {
             let is_near = match position {
                 Some(position) => is_near(number, position.number()),
                 None => false,
@@ -39,10 +39,10 @@ impl Shown {
         }
         let mut shown = Shown { is_shown };
         if let Some(position) = position {
-            shown.add_way(alloc, nodes, position)?;
+            shown.add_way(alloc, listed, position)?;
         }
         for number in named {
-            shown.add_way(alloc, nodes, Position::Statement(*number))?;
+            shown.add_way(alloc, listed, Position::Statement(*number))?;
         }
         Ok(shown)
     }
@@ -58,11 +58,11 @@ impl Shown {
     fn add_way(
         &mut self,
         alloc: Global,
-        nodes: &[Node<'_>],
+        listed: &[ListedStatement<'_>],
         position: Position,
     ) -> Result<(), AllocError> {
         self.add(position.number());
-        let way = way_to(alloc, nodes, position)?;
+        let way = way_to(alloc, listed, position)?;
         for inside in way.as_slice() {
             self.add(inside.number);
         }
@@ -101,18 +101,18 @@ fn digits(number: usize) -> usize {
 /// the head. Lists stand under what they are called, and an empty list is left out.
 pub(crate) fn write_body<W: fmt::Write>(
     out: &mut W,
-    nodes: &[Node<'_>],
+    listed: &[ListedStatement<'_>],
     shown: &Shown,
     position: Option<Position>,
-    place: &Place,
+    place: &JsonPointer,
 ) -> fmt::Result {
-    if nodes.is_empty() {
+    if listed.is_empty() {
         return Ok(());
     }
     write_head(out, position, place)?;
-    let width = digits(nodes.len().saturating_sub(1));
+    let width = digits(listed.len().saturating_sub(1));
     let mut hidden = 0usize;
-    for (number, node) in nodes.iter().enumerate() {
+    for (number, node) in listed.iter().enumerate() {
         if !shown.has(number) {
             hidden = hidden.saturating_add(1);
             continue;
@@ -120,7 +120,7 @@ pub(crate) fn write_body<W: fmt::Write>(
         if let Some(inside) = node.inside {
             if node.index == 0 || hidden > 0 {
                 write_gap(out, hidden)?;
-                write_label(out, nodes, inside, width, node.depth)?;
+                write_label(out, listed, inside, width, node.depth)?;
                 hidden = 0;
             }
         }
@@ -135,7 +135,7 @@ pub(crate) fn write_body<W: fmt::Write>(
 fn write_head<W: fmt::Write>(
     out: &mut W,
     position: Option<Position>,
-    place: &Place,
+    place: &JsonPointer,
 ) -> fmt::Result {
     out.write_str("\nbody")?;
     match position {
@@ -169,12 +169,12 @@ fn write_gap<W: fmt::Write>(out: &mut W, hidden: usize) -> fmt::Result {
 /// Writes the name of a list, a little less deep than the statements in it. The list of a Block needs none.
 fn write_label<W: fmt::Write>(
     out: &mut W,
-    nodes: &[Node<'_>],
+    listed: &[ListedStatement<'_>],
     inside: Inside,
     width: usize,
     depth: usize,
 ) -> fmt::Result {
-    let Some(holder) = nodes.get(inside.number) else {
+    let Some(holder) = listed.get(inside.number) else {
         return Ok(());
     };
     if inside.part == Part::Block {
@@ -189,7 +189,7 @@ fn write_label<W: fmt::Write>(
 /// Writes a statement.
 fn write_node<W: fmt::Write>(
     out: &mut W,
-    node: &Node<'_>,
+    node: &ListedStatement<'_>,
     number: usize,
     width: usize,
     position: Option<Position>,

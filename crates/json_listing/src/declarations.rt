@@ -4,7 +4,7 @@ use crate::marks::Marks;
 use crate::words::{write_expression, write_name, write_number, write_two, write_type};
 use bitflags::Flags;
 use json_places::parts::members_of;
-use json_places::{EntryField, Spot};
+use json_places::{EntryPart, Spot};
 use naga_below::{
     Binding, EntryPoint, Expression, Function, FunctionArgument, FunctionResult, GlobalVariable,
     Handle, LocalVariable, Module, Name, StructMember, tag,
@@ -108,7 +108,7 @@ fn is_argument(spot: &Spot, index: usize) -> bool {
     }
 }
 
-fn is_field(spot: &Spot, field: EntryField) -> bool {
+fn is_field(spot: &Spot, field: EntryPart) -> bool {
     match spot {
         Spot::Field(at) => *at == field,
         _ => false,
@@ -126,17 +126,13 @@ fn is_local(spot: &Spot, index: usize) -> bool {
     }
 }
 
-/// Writes what stands before a number, the number, a name, if there is one, and a type.
+/// Writes a name, if there is one, and a type.
 fn write_typed<W: fmt::Write>(
     out: &mut W,
     module: &Module,
-    before: &str,
-    number: usize,
-    after: &str,
     name: &Option<Name>,
     ty: Handle<tag::Type>,
 ) -> fmt::Result {
-    write_number(out, before, number, after)?;
     write_name(out, name)?;
     out.write_str(": ")?;
     write_type(out, module, ty)
@@ -149,7 +145,8 @@ fn write_argument<W: fmt::Write>(
     argument: &FunctionArgument,
 ) -> fmt::Result {
     let FunctionArgument { name, ty, binding } = argument;
-    write_typed(out, module, "argument ", index, "", name, *ty)?;
+    write_number(out, "argument ", index, "")?;
+    write_typed(out, module, name, *ty)?;
     write_binding(out, binding)
 }
 
@@ -159,7 +156,8 @@ fn write_local<W: fmt::Write>(
     index: usize,
     local: &LocalVariable,
 ) -> fmt::Result {
-    write_typed(out, module, "local [", index, "]", &local.name, local.ty)?;
+    write_number(out, "local [", index, "]")?;
+    write_typed(out, module, &local.name, local.ty)?;
     write_init(out, local.init)
 }
 
@@ -203,7 +201,8 @@ fn write_member<W: fmt::Write>(
     index: usize,
     member: &StructMember,
 ) -> fmt::Result {
-    write_typed(out, module, "  member ", index, "", &member.name, member.ty)?;
+    write_number(out, "  member ", index, "")?;
+    write_typed(out, module, &member.name, member.ty)?;
     write_binding(out, &member.binding)
 }
 
@@ -226,15 +225,15 @@ pub(crate) fn write_entry<W: fmt::Write>(
     ep: &EntryPoint,
     spot: Spot,
 ) -> fmt::Result {
-    let is_at = is_field(&spot, EntryField::Stage);
+    let is_at = is_field(&spot, EntryPart::Stage);
     write_field(out, is_at, "stage: ", &ep.stage)?;
-    let is_at = is_field(&spot, EntryField::WorkgroupSize);
+    let is_at = is_field(&spot, EntryPart::WorkgroupSize);
     write_field(out, is_at, "workgroup_size: ", &ep.workgroup_size)?;
-    let is_at = is_field(&spot, EntryField::EarlyDepthTest);
+    let is_at = is_field(&spot, EntryPart::EarlyDepthTest);
     if ep.early_depth_test.is_some() || is_at {
         write_field(out, is_at, "early_depth_test: ", &ep.early_depth_test)?;
     }
-    let is_at = is_field(&spot, EntryField::TaskPayload);
+    let is_at = is_field(&spot, EntryPart::TaskPayload);
     if ep.task_payload.is_some() || is_at {
         write_field(out, is_at, "task_payload: ", &ep.task_payload)?;
     }
@@ -248,7 +247,7 @@ fn write_mesh<W: fmt::Write>(
     ep: &EntryPoint,
     spot: Spot,
 ) -> fmt::Result {
-    let is_marked = is_field(&spot, EntryField::MeshInfo) || is_mesh_field(&spot);
+    let is_marked = is_field(&spot, EntryPart::MeshInfo) || is_mesh_field(&spot);
     let Some(mesh) = &ep.mesh_info else {
         if is_marked {
             out.write_str("\n> mesh_info: None")?;

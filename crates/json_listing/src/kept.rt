@@ -1,8 +1,8 @@
 //! What a body does with a value before the list ends in which it is emitted.
 
 use crate::marks::Marks;
-use json_places::Node;
-use json_places::nodes::result_of;
+use json_places::ListedStatement;
+use json_places::statements::result_of;
 use naga_below::{Expression, Function, Handle, Statement, tag};
 use std::alloc::{AllocError, Global};
 
@@ -27,59 +27,120 @@ pub(crate) struct Kept {
     pub is_of_loop: bool,
 }
 
-/// What is done with a value that this statement emits, until the list of that statement ends. `ended_loop` is the outermost
-/// Loop around it that has ended. An Err is out of memory.
-pub(crate) fn kept_of(
-    alloc: Global,
-    function: &Function,
-    nodes: &[Node<'_>],
-    emitted: usize,
-    ended_loop: Option<usize>,
-    handle: Handle<tag::Expression>,
-) -> Result<Kept, AllocError> {
-    let is_of_loop = match ended_loop {
-        Some(holder) => is_made_in(alloc, function, nodes, holder, handle)?,
-        None => false,
-    };
-    let mut kept = Kept {
-        named: Vec::new(alloc),
-        stored: None,
-        is_of_loop,
-    };
-    let mut marks = Marks::new(alloc, function.expressions.len())?;
-    let first = emitted.saturating_add(1);
-    for (number, node) in nodes.iter().skip(first).enumerate() {
-        if !is_in_list_of(node, nodes.get(emitted)) {
-            break;
+/// A value of a function, and the statement that emits it.
+#[derive(Clone, Copy)]
+pub(crate) struct EmittedValue<'a> {
+    pub function: &'a Function,
+    /// The statements of the function's body.
+    pub listed: &'a [ListedStatement<'a>],
+    /// The number of the one that emits the value.
+    pub emitted: usize,
+    pub handle: Handle<tag::Expression>,
+}
+
+impl EmittedValue<'_> {
+    /// What is done with the value until the list ends in which it is emitted. `ended_loop` is the outermost Loop around that
+    /// statement that has ended. An Err is out of memory.
+    pub(crate) fn kept(
+        &self,
+        alloc: Global,
+        ended_loop: Option<usize>,
+    ) -> Result<Kept, AllocError> {
+        let is_of_loop = match ended_loop {
+            Some(holder) => self.is_made_in(alloc, holder)?,
+            None => false,
+        };
+        let mut kept = Kept {
+            named: Vec::new(alloc),
+            stored: None,
+            is_of_loop,
+        };
+        let mut marks = Marks::new(alloc, self.function.expressions.len())?;
+        let first = self.emitted.saturating_add(1);
+        for (number, node) in self.listed.iter().skip(first).enumerate() {
+            if !is_in_list_of(node, self.listed.get(self.emitted)) {
+                break;
+            }
+            let number = first.saturating_add(number);
+            kept.add(&self, number, &node.located.statement, &mut marks)?;
         }
-        let number = first.saturating_add(number);
-        kept.add(
-            function,
-            number,
-            &node.located.statement,
-            &mut marks,
-            handle,
-        )?;
+        Ok(kept)
     }
-    Ok(kept)
+
+    /// Whether a statement stores the value in a local, and in which.
+    fn stored_by(&self, number: usize, statement: &Statement) -> Option<Stored> {
+        let Statement::Store { pointer, value } = statement else {
+            return None;
+        };
+        if *value != self.handle {
+            return None;
+        }
+        match self.function.expressions.as_slice().get(pointer.index()) {
+            Some(Expression::LocalVariable(local)) => Some(Stored {
+                number,
+                local: *local,
+            }),
+            _ => None,
+        }
+    }
+
+    /// Whether the value is made anew in each turn of a Loop: it is loaded or the result of a statement, or something that it is
+    /// made from is emitted in the Loop. An Err is out of memory.
+    fn is_made_in(&self, alloc: Global, holder: usize) -> Result<bool, AllocError> {
+        let Some(head) = self.listed.get(holder) else {
+            return Ok(false);
+        };
+        if self.is_loaded() {
+            return Ok(true);
+        }
+        let mut parts = Marks::new(alloc, self.function.expressions.len())?;
+        parts.add(self.handle);
+        parts.close(self.function);
+        Ok(self.is_one_brought(holder, head.depth, &parts))
+    }
+
+    /// Whether a statement in a Loop brings one of these into scope. The Loop lies so deep.
+    fn is_one_brought(&self, holder: usize, depth: usize, parts: &Marks) -> bool {
+        for node in self.listed.iter().skip(holder.saturating_add(1)) {
+            if node.depth <= depth {
+                break;
+            }
+            if brings_one(&node.located.statement, parts, self.handle) {
+                return true;
+            }
+        }
+        false
+    }
+
+    /// Whether the value is a Load.
+    fn is_loaded(&self) -> bool {
+        match self
+            .function
+            .expressions
+            .as_slice()
+            .get(self.handle.index())
+        {
+            Some(expression) => matches!(expression, Expression::Load { .. }),
+            None => false,
+        }
+    }
 }
 
 impl Kept {
     /// Takes a statement in, with marks that are made anew for what it names. An Err is out of memory.
     fn add(
         &mut self,
-        function: &Function,
+        value: &EmittedValue<'_>,
         number: usize,
         statement: &Statement,
         marks: &mut Marks,
-        handle: Handle<tag::Expression>,
     ) -> Result<(), AllocError> {
         if self.stored.is_none() {
-            self.stored = stored_by(function, number, statement, handle);
+            self.stored = value.stored_by(number, statement);
         }
-        marks.remove(handle);
+        marks.remove(value.handle);
         marks.add_statement(statement);
-        if marks.has(handle.index()) && self.named.len() < HANDFUL {
+        if marks.has(value.handle.index()) && self.named.len() < HANDFUL {
             self.named.push(number)?;
         }
         Ok(())
@@ -87,79 +148,9 @@ impl Kept {
 }
 
 /// Whether a statement after another one stands in the same list, or is held by one that does.
-fn is_in_list_of(node: &Node<'_>, other: Option<&Node<'_>>) -> bool {
+fn is_in_list_of(node: &ListedStatement<'_>, other: Option<&ListedStatement<'_>>) -> bool {
     match other {
         Some(other) => node.depth > other.depth || node.inside == other.inside,
-        None => false,
-    }
-}
-
-/// Whether a statement stores a value in a local, and in which.
-fn stored_by(
-    function: &Function,
-    number: usize,
-    statement: &Statement,
-    handle: Handle<tag::Expression>,
-) -> Option<Stored> {
-    let Statement::Store { pointer, value } = statement else {
-        return None;
-    };
-    if *value != handle {
-        return None;
-    }
-    match function.expressions.as_slice().get(pointer.index()) {
-        Some(Expression::LocalVariable(local)) => Some(Stored {
-            number,
-            local: *local,
-        }),
-        _ => None,
-    }
-}
-
-/// Whether a value is made anew in each turn of a Loop: it is loaded or the result of a statement, or something that it is made
-/// from is emitted in the Loop. An Err is out of memory.
-fn is_made_in(
-    alloc: Global,
-    function: &Function,
-    nodes: &[Node<'_>],
-    holder: usize,
-    handle: Handle<tag::Expression>,
-) -> Result<bool, AllocError> {
-    let Some(head) = nodes.get(holder) else {
-        return Ok(false);
-    };
-    if is_loaded(function, handle) {
-        return Ok(true);
-    }
-    let mut parts = Marks::new(alloc, function.expressions.len())?;
-    parts.add(handle);
-    parts.close(function);
-    Ok(is_one_brought(nodes, holder, head.depth, &parts, handle))
-}
-
-/// Whether a statement in a Loop brings one of these into scope. The Loop lies so deep.
-fn is_one_brought(
-    nodes: &[Node<'_>],
-    holder: usize,
-    depth: usize,
-    parts: &Marks,
-    handle: Handle<tag::Expression>,
-) -> bool {
-    for node in nodes.iter().skip(holder.saturating_add(1)) {
-        if node.depth <= depth {
-            break;
-        }
-        if brings_one(&node.located.statement, parts, handle) {
-            return true;
-        }
-    }
-    false
-}
-
-/// Whether an expression is a Load.
-fn is_loaded(function: &Function, handle: Handle<tag::Expression>) -> bool {
-    match function.expressions.as_slice().get(handle.index()) {
-        Some(expression) => matches!(expression, Expression::Load { .. }),
         None => false,
     }
 }

@@ -2,14 +2,12 @@
 
 use crate::body::{Shown, write_body};
 use crate::declarations::{write_declarations, write_entry, write_expressions, write_global};
-use crate::kept::{Kept, kept_of};
+use crate::kept::{EmittedValue, Kept};
 use crate::marks::{Marks, user_in};
-use crate::why::{
-    Earlier, earlier_of, write_cases, write_cures, write_earlier, write_reason, write_twin,
-};
+use crate::why::{Earlier, RefusedUse, earlier_of, write_cases, write_earlier, write_twin};
 use crate::words::{write_number, write_two};
 use check_faults::{EntryPointError, ModuleFault};
-use json_places::{Found, Node, Position, Reason, Spot, nodes_of, unseen};
+use json_places::{Found, ListedStatement, Position, Reason, Spot, statements_of, unseen};
 use naga_below::{Function, Handle, Module, Statement, tag};
 use naga_rules::FunctionError;
 use std::alloc::{AllocError, Global};
@@ -27,56 +25,85 @@ pub fn write_listing<W: fmt::Write>(
     fault: &ModuleFault,
     found: &Found,
 ) -> fmt::Result {
+    let listing = Listing { module, found };
     match fault {
         ModuleFault::Global(global, _) => write_global(out, module, *global),
         ModuleFault::Function(handle, error) => {
-            write_own_function(alloc, out, module, handle.index(), error.as_inner(), found)
+            listing.write_own_function(alloc, out, handle.index(), error.as_inner())
         }
         ModuleFault::EntryPoint(index, error) => {
-            write_entry_point(alloc, out, module, *index, error.as_inner(), found)
+            listing.write_entry_point(alloc, out, *index, error.as_inner())
         }
         ModuleFault::NotFit | ModuleFault::Memory => Ok(()),
     }
 }
 
-/// Writes the listing of the function with this index.
-fn write_own_function<W: fmt::Write>(
-    alloc: Global,
-    out: &mut W,
-    module: &Module,
-    index: usize,
-    fault: &FunctionError,
-    found: &Found,
-) -> fmt::Result {
-    let Some(function) = module.functions.as_slice().get(index) else {
-        return Ok(());
-    };
-    out.write_str(head_mark(found.spot))?;
-    write_number(out, "function ", index, ":")?;
-    write_function(alloc, out, module, function, Some(fault), found)
+/// What is listed: a refused module, and where its fault was found.
+#[derive(Clone, Copy)]
+struct Listing<'a> {
+    module: &'a Module,
+    found: &'a Found,
 }
 
-/// Writes the listing of the entry point with this index.
-fn write_entry_point<W: fmt::Write>(
-    alloc: Global,
-    out: &mut W,
-    module: &Module,
-    index: usize,
-    fault: &EntryPointError,
-    found: &Found,
-) -> fmt::Result {
-    let Some(ep) = module.entry_points.as_slice().get(index) else {
-        return Ok(());
-    };
-    out.write_str(head_mark(found.spot))?;
-    write_number(out, "entry point ", index, ":")?;
-    write_entry(out, module, ep, found.spot)?;
-    let own = match fault {
-        EntryPointError::Function(error) => Some(error),
-        _ => None,
-    };
-    write_function(alloc, out, module, &ep.function, own, found)?;
-    write_twin(alloc, out, module, ep, fault)
+impl Listing<'_> {
+    /// Writes the listing of the function with this index.
+    fn write_own_function<W: fmt::Write>(
+        self,
+        alloc: Global,
+        out: &mut W,
+        index: usize,
+        fault: &FunctionError,
+    ) -> fmt::Result {
+        let Some(function) = self.module.functions.as_slice().get(index) else {
+            return Ok(());
+        };
+        out.write_str(head_mark(self.found.spot))?;
+        write_number(out, "function ", index, ":")?;
+        self.write_function(alloc, out, function, Some(fault))
+    }
+
+    /// Writes the listing of the entry point with this index.
+    fn write_entry_point<W: fmt::Write>(
+        self,
+        alloc: Global,
+        out: &mut W,
+        index: usize,
+        fault: &EntryPointError,
+    ) -> fmt::Result {
+        let Some(ep) = self.module.entry_points.as_slice().get(index) else {
+            return Ok(());
+        };
+        out.write_str(head_mark(self.found.spot))?;
+        write_number(out, "entry point ", index, ":")?;
+        write_entry(out, self.module, ep, self.found.spot)?;
+        let own = match fault {
+            EntryPointError::Function(error) => Some(error),
+            _ => None,
+        };
+        self.write_function(alloc, out, &ep.function, own)?;
+        write_twin(alloc, out, self.module, ep, fault)
+    }
+
+    /// Writes the declarations, the expressions and the body of a function, and why a statement of it is refused.
+    fn write_function<W: fmt::Write>(
+        self,
+        alloc: Global,
+        out: &mut W,
+        function: &Function,
+        fault: Option<&FunctionError>,
+    ) -> fmt::Result {
+        write_declarations(out, self.module, function, self.found.spot)?;
+        let listed = statements_of(alloc, &function.body)?;
+        let refused = Refused {
+            function,
+            listed: listed.as_slice(),
+            fault,
+            found: self.found,
+        };
+        let written = refused.write(alloc, out);
+        drop(listed);
+        written
+    }
 }
 
 /// What is at the beginning of the first line: a mark where the fault is one of the whole.
@@ -95,34 +122,12 @@ fn position_of(spot: Spot) -> Option<Position> {
     }
 }
 
-/// Writes the declarations, the expressions and the body of a function, and why a statement of it is refused.
-fn write_function<W: fmt::Write>(
-    alloc: Global,
-    out: &mut W,
-    module: &Module,
-    function: &Function,
-    fault: Option<&FunctionError>,
-    found: &Found,
-) -> fmt::Result {
-    write_declarations(out, module, function, found.spot)?;
-    let nodes = nodes_of(alloc, &function.body)?;
-    let refused = Refused {
-        function,
-        nodes: nodes.as_slice(),
-        fault,
-        found,
-    };
-    let written = refused.write(alloc, out);
-    drop(nodes);
-    written
-}
-
 /// A function of which something is refused: the statements of its body by their numbers, the fault, if it is the function's
 /// own, and where it was found.
 #[derive(Clone, Copy)]
 struct Refused<'a> {
     function: &'a Function,
-    nodes: &'a [Node<'a>],
+    listed: &'a [ListedStatement<'a>],
     fault: Option<&'a FunctionError>,
     found: &'a Found,
 }
@@ -144,20 +149,20 @@ impl<'a> Refused<'a> {
     /// The statement that has the fault, if one has.
     fn statement(self) -> Option<&'a Statement> {
         let position = position_of(self.found.spot)?;
-        let node = self.nodes.get(position.number())?;
+        let node = self.listed.get(position.number())?;
         Some(&node.located.statement)
     }
 
     /// The expression that isn't in scope, if that is the fault.
     fn unseen(self) -> Option<Handle<tag::Expression>> {
-        unseen(self.fault?, self.nodes, &self.found.spot)
+        unseen(self.fault?, self.listed, &self.found.spot)
     }
 
     /// What an earlier statement has to do with the fault of a statement.
     fn earlier(self, alloc: Global) -> Result<Earlier, AllocError> {
         match (self.fault, position_of(self.found.spot)) {
             (Some(fault), Some(position)) => {
-                earlier_of(alloc, self.function, self.nodes, fault, position)
+                earlier_of(alloc, self.function, self.listed, fault, position)
             }
             _ => Ok(Earlier::None),
         }
@@ -177,14 +182,13 @@ impl<'a> Refused<'a> {
         };
         match self.unseen() {
             Some(handle) => {
-                let kept = kept_of(
-                    alloc,
-                    self.function,
-                    self.nodes,
+                let value = EmittedValue {
+                    function: self.function,
+                    listed: self.listed,
                     emitted,
-                    ended_loop,
                     handle,
-                )?;
+                };
+                let kept = value.kept(alloc, ended_loop)?;
                 Ok(Some(kept))
             }
             None => Ok(None),
@@ -201,11 +205,11 @@ impl<'a> Refused<'a> {
     ) -> fmt::Result {
         let position = position_of(self.found.spot);
         let named = named_by(alloc, self.found.reason, earlier, kept)?;
-        let shown = Shown::new(alloc, self.nodes, position, named.as_slice())?;
+        let shown = Shown::new(alloc, self.listed, position, named.as_slice())?;
         let marks = self.marks(alloc)?;
         let all = self.marks_of_shown(alloc, &marks, &shown)?;
         write_expressions(out, self.function, &marks, &all, self.found.spot)?;
-        write_body(out, self.nodes, &shown, position, &self.found.place)
+        write_body(out, self.listed, &shown, position, &self.found.place)
     }
 
     /// The expressions that the fault is about, with all that they are made from.
@@ -246,7 +250,7 @@ impl<'a> Refused<'a> {
         shown: &Shown,
     ) -> Result<Marks, AllocError> {
         let mut all = marks.copy(alloc)?;
-        for (number, node) in self.nodes.iter().enumerate() {
+        for (number, node) in self.listed.iter().enumerate() {
             if shown.has(number) {
                 all.add_whole_statement(&node.located.statement);
             }
@@ -280,10 +284,11 @@ impl<'a> Refused<'a> {
         kept: &Option<Kept>,
     ) -> fmt::Result {
         if let (Some(reason), Some(handle)) = (self.found.reason, self.unseen()) {
+            let refused = RefusedUse { position, handle };
             self.write_user(out, position.number(), handle)?;
-            write_reason(out, position, handle, reason)?;
+            refused.write_reason(out, reason)?;
             return match kept {
-                Some(kept) => write_cures(out, self.function, position, handle, reason, kept),
+                Some(kept) => refused.write_cures(out, self.function, reason, kept),
                 None => Ok(()),
             };
         }

@@ -3,10 +3,10 @@
 use crate::kept::{Kept, Stored};
 use crate::words::{write_name, write_number, write_two};
 use check_faults::EntryPointError;
-use json_places::nodes::result_of;
 use json_places::parts::{Bound, Group, bounds_of, first_of};
 use json_places::scope::first_emission;
-use json_places::{Inside, Node, Part, Position, Reason, Spot};
+use json_places::statements::result_of;
+use json_places::{Inside, ListedStatement, Part, Position, Reason, Spot};
 use naga_below::{EntryPoint, Function, Handle, Module, Statement, SwitchCase, SwitchValue, tag};
 use naga_rules::{AtomicError, CallError, FunctionError, VaryingError};
 use std::alloc::{AllocError, Global};
@@ -31,7 +31,7 @@ pub(crate) enum Earlier {
 pub(crate) fn earlier_of(
     alloc: Global,
     function: &Function,
-    nodes: &[Node<'_>],
+    listed: &[ListedStatement<'_>],
     fault: &FunctionError,
     position: Position,
 ) -> Result<Earlier, AllocError> {
@@ -44,7 +44,7 @@ pub(crate) fn earlier_of(
             if is_pre_emitted(function, *handle) {
                 return Ok(Earlier::FromStart);
             }
-            Ok(match first_emission(alloc, nodes, position, *handle)? {
+            Ok(match first_emission(alloc, listed, position, *handle)? {
                 Some(number) => Earlier::Emits(number),
                 None => Earlier::None,
             })
@@ -54,7 +54,7 @@ pub(crate) fn earlier_of(
             ..
         }
         | FunctionError::InvalidAtomic(AtomicError::ResultAlreadyPopulated(handle)) => {
-            Ok(first_result(nodes, position.number(), *handle))
+            Ok(first_result(listed, position.number(), *handle))
         }
         _ => Ok(Earlier::None),
     }
@@ -68,8 +68,12 @@ fn is_pre_emitted(function: &Function, handle: Handle<tag::Expression>) -> bool 
 }
 
 /// The first statement before this one that has a result. If none has it, no statement could: EXPRESSIONS is off.
-fn first_result(nodes: &[Node<'_>], at: usize, handle: Handle<tag::Expression>) -> Earlier {
-    for (number, node) in nodes.iter().enumerate() {
+fn first_result(
+    listed: &[ListedStatement<'_>],
+    at: usize,
+    handle: Handle<tag::Expression>,
+) -> Earlier {
+    for (number, node) in listed.iter().enumerate() {
         if number < at && result_of(&node.located.statement) == Some(handle) {
             return Earlier::Fills(number);
         }
@@ -85,113 +89,110 @@ fn write_position<W: fmt::Write>(out: &mut W, position: Position) -> fmt::Result
     }
 }
 
-/// Writes why an expression isn't in scope at a position, and what to do. Where its list has ended, [`write_cures`] says that.
-pub(crate) fn write_reason<W: fmt::Write>(
-    out: &mut W,
-    position: Position,
-    handle: Handle<tag::Expression>,
-    reason: Reason,
-) -> fmt::Result {
-    let index = handle.index();
-    match reason {
-        Reason::Never => {
-            write_number(out, "\nWhy: no statement of the body emits [", index, "].")?;
-            write_cure(out, "\nCure", position, handle)
-        }
-        Reason::Ended { emitted, list, .. } => write_ended(out, position, handle, emitted, list),
-        Reason::Later { emitted } if position == Position::Statement(emitted) => {
-            let after = "], after it has used it.";
-            write_two(out, "\nWhy: #", emitted, " itself emits [", index, after)?;
-            write_cure(out, "\nCure", position, handle)
-        }
-        Reason::Later { emitted } => write_later(out, position, handle, emitted),
-        Reason::Skipped {
-            emitted,
-            holder,
-            jump,
-        } => {
-            let after = "] in the body of the Loop #";
-            write_two(out, "\nWhy: #", emitted, " emits [", index, after)?;
-            write_two(
-                out,
-                "",
+/// A use that is refused since its expression isn't in scope there.
+#[derive(Clone, Copy)]
+pub(crate) struct RefusedUse {
+    pub position: Position,
+    pub handle: Handle<tag::Expression>,
+}
+
+impl RefusedUse {
+    /// Writes why the expression isn't in scope, and what to do. Where its list has ended, [`RefusedUse::write_cures`] says that.
+    pub(crate) fn write_reason<W: fmt::Write>(&self, out: &mut W, reason: Reason) -> fmt::Result {
+        let index = self.handle.index();
+        match reason {
+            Reason::Never => {
+                write_number(out, "\nWhy: no statement of the body emits [", index, "].")?;
+                self.write_cure(out, "\nCure")
+            }
+            Reason::Ended { emitted, list, .. } => self.write_ended(out, emitted, list),
+            Reason::Later { emitted } if self.position == Position::Statement(emitted) => {
+                let after = "], after it has used it.";
+                write_two(out, "\nWhy: #", emitted, " itself emits [", index, after)?;
+                self.write_cure(out, "\nCure")
+            }
+            Reason::Later { emitted } => self.write_later(out, emitted),
+            Reason::Skipped {
+                emitted,
                 holder,
-                ", and the Continue #",
                 jump,
-                " may skip it.",
-            )?;
-            write_cure_of_skipped(out, position, handle)
+            } => {
+                let after = "] in the body of the Loop #";
+                write_two(out, "\nWhy: #", emitted, " emits [", index, after)?;
+                write_two(
+                    out,
+                    "",
+                    holder,
+                    ", and the Continue #",
+                    jump,
+                    " may skip it.",
+                )?;
+                self.write_cure_of_skipped(out)
+            }
         }
     }
-}
 
-/// Writes that the list has ended in which the expression is emitted.
-fn write_ended<W: fmt::Write>(
-    out: &mut W,
-    position: Position,
-    handle: Handle<tag::Expression>,
-    emitted: usize,
-    list: Inside,
-) -> fmt::Result {
-    write_two(
-        out,
-        "\nWhy: #",
-        emitted,
-        " emits [",
-        handle.index(),
-        "], in ",
-    )?;
-    write_list_name(out, list)?;
-    out.write_str(", which has ended before ")?;
-    write_position(out, position)?;
-    out.write_str(".")
-}
-
-/// Writes that the expression is emitted later.
-fn write_later<W: fmt::Write>(
-    out: &mut W,
-    position: Position,
-    handle: Handle<tag::Expression>,
-    emitted: usize,
-) -> fmt::Result {
-    let after = "], and comes after ";
-    write_two(out, "\nWhy: #", emitted, " emits [", handle.index(), after)?;
-    write_position(out, position)?;
-    out.write_str(".")?;
-    write_cure(out, "\nCure", position, handle)
-}
-
-/// Writes where an expression is to be emitted so that no Continue skips it.
-fn write_cure_of_skipped<W: fmt::Write>(
-    out: &mut W,
-    position: Position,
-    handle: Handle<tag::Expression>,
-) -> fmt::Result {
-    let after =
-        "] in that body before the first statement that holds a Continue, or in the continuing part before ";
-    write_number(out, "\nCure: emit [", handle.index(), after)?;
-    write_position(out, position)?;
-    out.write_str(".")
-}
-
-/// Writes the two cures of a value whose list has ended. One that a Loop makes anew in each turn is kept in a local first.
-pub(crate) fn write_cures<W: fmt::Write>(
-    out: &mut W,
-    function: &Function,
-    position: Position,
-    handle: Handle<tag::Expression>,
-    reason: Reason,
-    kept: &Kept,
-) -> fmt::Result {
-    let Reason::Ended { emitted, .. } = reason else {
-        return Ok(());
-    };
-    if kept.is_of_loop {
-        write_keeping(out, "\nCure", function, emitted, kept)?;
-        return write_cure(out, "\nOr", position, handle);
+    /// Writes that the list has ended in which the expression is emitted.
+    fn write_ended<W: fmt::Write>(&self, out: &mut W, emitted: usize, list: Inside) -> fmt::Result {
+        write_two(
+            out,
+            "\nWhy: #",
+            emitted,
+            " emits [",
+            self.handle.index(),
+            "], in ",
+        )?;
+        write_list_name(out, list)?;
+        out.write_str(", which has ended before ")?;
+        write_position(out, self.position)?;
+        out.write_str(".")
     }
-    write_cure(out, "\nCure", position, handle)?;
-    write_keeping(out, "\nOr", function, emitted, kept)
+
+    /// Writes that the expression is emitted later.
+    fn write_later<W: fmt::Write>(&self, out: &mut W, emitted: usize) -> fmt::Result {
+        let index = self.handle.index();
+        let after = "], and comes after ";
+        write_two(out, "\nWhy: #", emitted, " emits [", index, after)?;
+        write_position(out, self.position)?;
+        out.write_str(".")?;
+        self.write_cure(out, "\nCure")
+    }
+
+    /// Writes where the expression is to be emitted so that no Continue skips it.
+    fn write_cure_of_skipped<W: fmt::Write>(&self, out: &mut W) -> fmt::Result {
+        let after =
+            "] in that body before the first statement that holds a Continue, or in the continuing part before ";
+        write_number(out, "\nCure: emit [", self.handle.index(), after)?;
+        write_position(out, self.position)?;
+        out.write_str(".")
+    }
+
+    /// Writes the two cures of a value whose list has ended. One that a Loop makes anew in each turn is kept in a local first.
+    pub(crate) fn write_cures<W: fmt::Write>(
+        &self,
+        out: &mut W,
+        function: &Function,
+        reason: Reason,
+        kept: &Kept,
+    ) -> fmt::Result {
+        let Reason::Ended { emitted, .. } = reason else {
+            return Ok(());
+        };
+        if kept.is_of_loop {
+            write_keeping(out, "\nCure", function, emitted, kept)?;
+            return self.write_cure(out, "\nOr");
+        }
+        self.write_cure(out, "\nCure")?;
+        write_keeping(out, "\nOr", function, emitted, kept)
+    }
+
+    /// Writes where the expression is to be emitted.
+    fn write_cure<W: fmt::Write>(&self, out: &mut W, lead: &str) -> fmt::Result {
+        out.write_str(lead)?;
+        write_number(out, ": emit [", self.handle.index(), "] before ")?;
+        write_position(out, self.position)?;
+        out.write_str(", in the same list or in one around it.")
+    }
 }
 
 /// Writes in which local a value is kept, or that one is needed.
@@ -212,19 +213,6 @@ fn write_keeping<W: fmt::Write>(
         write_name(out, &local.name)?;
     }
     write_number(out, ", in which #", number, " stores it.")
-}
-
-/// Writes where an expression is to be emitted.
-fn write_cure<W: fmt::Write>(
-    out: &mut W,
-    lead: &str,
-    position: Position,
-    handle: Handle<tag::Expression>,
-) -> fmt::Result {
-    out.write_str(lead)?;
-    write_number(out, ": emit [", handle.index(), "] before ")?;
-    write_position(out, position)?;
-    out.write_str(", in the same list or in one around it.")
 }
 
 /// Writes which list of statements a part of a statement is.

@@ -127,7 +127,23 @@ pub(crate) fn write_expression<W: fmt::Write>(out: &mut W, expression: &Expressi
             out,
             "{name} {{ operands: {operands:?}, detail: {detail} }}"
         ),
-        _ => write!(out, "{expression:?}"),
+        Expression::Literal(_)
+        | Expression::Constant(_)
+        | Expression::Override(_)
+        | Expression::ZeroValue(_)
+        | Expression::Compose { .. }
+        | Expression::Access { .. }
+        | Expression::AccessIndex { .. }
+        | Expression::FunctionArgument(_)
+        | Expression::GlobalVariable(_)
+        | Expression::LocalVariable(_)
+        | Expression::Load { .. }
+        | Expression::CallResult(_)
+        | Expression::AtomicResult { .. }
+        | Expression::WorkGroupUniformLoadResult { .. }
+        | Expression::RayQueryProceedResult
+        | Expression::SubgroupBallotResult
+        | Expression::SubgroupOperationResult { .. } => write!(out, "{expression:?}"),
     }
 }
 

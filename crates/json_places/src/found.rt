@@ -1,9 +1,9 @@
 //! What has a fault, and where that stands.
 
-use crate::nodes::Node;
-use crate::place::Place;
+use crate::place::JsonPointer;
 use crate::scope::Reason;
 use crate::spot::Spot;
+use crate::statements::ListedStatement;
 use naga_below::{ExpressionError, Handle, Statement, tag};
 use naga_rules::{CallError, FunctionError};
 
@@ -13,7 +13,7 @@ pub struct Found {
     /// What has the fault.
     pub spot: Spot,
     /// Where in the document that stands.
-    pub place: Place,
+    pub place: JsonPointer,
     /// Why an expression isn't in scope there, if that is the fault.
     pub reason: Option<Reason>,
 }
@@ -21,7 +21,7 @@ pub struct Found {
 /// The expression that isn't in scope where it is used, if that is the fault.
 pub fn unseen(
     fault: &FunctionError,
-    nodes: &[Node<'_>],
+    listed: &[ListedStatement<'_>],
     spot: &Spot,
 ) -> Option<Handle<tag::Expression>> {
     match fault {
@@ -35,17 +35,21 @@ pub fn unseen(
                 source: ExpressionError::NotInScope,
             },
             ..
-        } => argument_of(nodes, spot, *index),
+        } => argument_of(listed, spot, *index),
         _ => None,
     }
 }
 
 /// An argument of the Call at a spot.
-fn argument_of(nodes: &[Node<'_>], spot: &Spot, index: usize) -> Option<Handle<tag::Expression>> {
+fn argument_of(
+    listed: &[ListedStatement<'_>],
+    spot: &Spot,
+    index: usize,
+) -> Option<Handle<tag::Expression>> {
     let Spot::At(position) = *spot else {
         return None;
     };
-    let node = nodes.get(position.number())?;
+    let node = listed.get(position.number())?;
     match &node.located.statement {
         Statement::Call { arguments, .. } => arguments.as_slice().get(index).copied(),
         _ => None,

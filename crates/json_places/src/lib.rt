@@ -5,16 +5,16 @@
 mod found;
 pub mod located;
 mod misfits;
-pub mod nodes;
 pub mod numbered;
 pub mod parts;
 mod place;
 pub mod scope;
 pub mod spot;
+pub mod statements;
 
 pub use crate::found::{Found, unseen};
 pub use crate::misfits::locate_misfit;
-pub use crate::nodes::{Inside, Node, Part, Position, nodes_of};
-pub use crate::place::Place;
+pub use crate::place::JsonPointer;
 pub use crate::scope::Reason;
-pub use crate::spot::{EntryField, Spot};
+pub use crate::spot::{EntryPart, Spot};
+pub use crate::statements::{Inside, ListedStatement, Part, Position, statements_of};

@@ -1,10 +1,10 @@
 //! What has the fault of a module, and where it stands.
 
 use crate::found::{Found, unseen};
-use crate::nodes::{Node, nodes_of};
 use crate::place::place_of;
 use crate::scope::{Reason, reason_of};
 use crate::spot::{Spot, spot_in_entry, spot_in_function};
+use crate::statements::{ListedStatement, statements_of};
 use check_faults::{EntryPointError, ModuleFault, Subject};
 use ir_facts::Facts;
 use ir_misfits::{Owner, Shortage, find_short_fact};
@@ -12,8 +12,8 @@ use naga_below::{ExpressionError, Function, Handle, Module, tag};
 use naga_rules::FunctionError;
 use std::alloc::{AllocError, Global};
 
-/// What has a fault, with the number of its statement, if it has one. `facts` are those that are recorded, if the module was judged
-/// over such. None of `NotFit` and `Memory`, which name nothing.
+/// What has a fault, with the number of its statement, if it has one. `facts` are those that are recorded, if the module was
+/// judged over such. None of `NotFit` and `Memory`, which name nothing.
 pub fn found_in(
     alloc: Global,
     facts: Option<&Facts>,
@@ -31,15 +31,17 @@ pub fn found_in(
                 subject: Subject::Function(*handle),
                 owner: Owner::Function(handle.index()),
                 function,
+                fault: error.as_inner(),
+                number,
             };
-            Ok(Some(found_in_body(alloc, facts, module, judged, error.as_inner(), number)?))
+            Ok(Some(found_in_body(alloc, facts, module, judged)?))
         }
         ModuleFault::EntryPoint(index, error) => {
             let Some(ep) = module.entry_points.as_slice().get(*index) else {
                 return Ok(None);
             };
             let subject = Subject::EntryPoint(*index);
-            let EntryPointError::Function(error) = error.as_inner() else {
+            let EntryPointError::Function(fault) = error.as_inner() else {
                 let spot = spot_in_entry(alloc, module, ep, error.as_inner())?;
                 return Ok(Some(found_at(alloc, subject, spot, &[], None)?));
             };
@@ -47,19 +49,24 @@ pub fn found_in(
                 subject,
                 owner: Owner::EntryPoint(*index),
                 function: &ep.function,
+                fault,
+                number,
             };
-            Ok(Some(found_in_body(alloc, facts, module, judged, error, number)?))
+            Ok(Some(found_in_body(alloc, facts, module, judged)?))
         }
         ModuleFault::NotFit | ModuleFault::Memory => Ok(None),
     }
 }
 
-/// A function that was judged, or that of an entry point.
+/// A function that was judged, or that of an entry point, and its fault.
 #[derive(Clone, Copy)]
 struct Judged<'a> {
     subject: Subject,
     owner: Owner,
     function: &'a Function,
+    fault: &'a FunctionError,
+    /// The number of the statement that has the fault, if one has.
+    number: Option<usize>,
 }
 
 /// A global has the fault.
@@ -71,23 +78,22 @@ fn found_in_global(
     found_at(alloc, Subject::GlobalVariable(global), spot, &[], None)
 }
 
-/// What of a function has the fault.
+/// What of a function has its fault.
 fn found_in_body(
     alloc: Global,
     facts: Option<&Facts>,
     module: &Module,
     judged: Judged<'_>,
-    fault: &FunctionError,
-    number: Option<usize>,
 ) -> Result<Found, AllocError> {
-    let nodes = nodes_of(alloc, &judged.function.body)?;
-    let nodes = nodes.as_slice();
+    let fault = judged.fault;
+    let listed = statements_of(alloc, &judged.function.body)?;
+    let listed = listed.as_slice();
     let spot = match shortage_in(facts, module, judged.owner, fault) {
         Some(shortage) => Spot::Facts(shortage),
-        None => spot_in_function(judged.function, nodes, fault, number),
+        None => spot_in_function(judged.function, listed, fault, judged.number),
     };
-    let used = unseen(fault, nodes, &spot);
-    found_at(alloc, judged.subject, spot, nodes, used)
+    let used = unseen(fault, listed, &spot);
+    found_at(alloc, judged.subject, spot, listed, used)
 }
 
 /// What is short in the facts about a function, or breaks a law, if there are facts and its fault is that.
@@ -116,16 +122,16 @@ fn found_at(
     alloc: Global,
     subject: Subject,
     spot: Spot,
-    nodes: &[Node<'_>],
+    listed: &[ListedStatement<'_>],
     used: Option<Handle<tag::Expression>>,
 ) -> Result<Found, AllocError> {
     let reason = match used {
-        Some(handle) => reason_at(alloc, nodes, spot, handle)?,
+        Some(handle) => reason_at(alloc, listed, spot, handle)?,
         None => None,
     };
     Ok(Found {
         spot,
-        place: place_of(alloc, subject, spot, nodes)?,
+        place: place_of(alloc, subject, spot, listed)?,
         reason,
     })
 }
@@ -133,12 +139,12 @@ fn found_at(
 /// Why an expression can't be used at a spot, if that is in the body.
 fn reason_at(
     alloc: Global,
-    nodes: &[Node<'_>],
+    listed: &[ListedStatement<'_>],
     spot: Spot,
     handle: Handle<tag::Expression>,
 ) -> Result<Option<Reason>, AllocError> {
     match spot {
-        Spot::At(position) => Ok(Some(reason_of(alloc, nodes, position, handle)?)),
+        Spot::At(position) => Ok(Some(reason_of(alloc, listed, position, handle)?)),
         _ => Ok(None),
     }
 }

@@ -1,12 +1,12 @@
 //! Where in a document that stands which doesn't fit.
 
 use crate::found::Found;
-use crate::nodes::{Position, nodes_of};
-use crate::place::{Place, add_field, add_index, add_item, add_members, add_name, add_position};
-use crate::spot::Spot;
-use ir_misfits::{
-    EntryField, Misfit, Owner, Place as MisfitPlace, StatementField, TypeField, TypeOwner,
+use crate::place::{
+    JsonPointer, add_field, add_index, add_item, add_members, add_name, add_position,
 };
+use crate::spot::Spot;
+use crate::statements::{Position, statements_of};
+use ir_misfits::{EntryField, Misfit, Owner, Place, StatementField, TypeField, TypeOwner};
 use json_nodes::Step;
 use naga_below::{Block, Module};
 use std::alloc::{AllocError, Global};
@@ -14,7 +14,7 @@ use std::alloc::{AllocError, Global};
 /// Finds where what doesn't fit stands: the statement, break condition, expression, variable, argument, result, member, type
 /// or list, or the field of an entry point. None out of memory.
 ///
-/// Without facts the types of global expressions are computed, so the place is that of the expressions.
+/// Without facts the types of global expressions are computed, so the pointer leads to the expressions.
 pub fn locate_misfit(
     alloc: Global,
     has_facts: bool,
@@ -25,7 +25,7 @@ pub fn locate_misfit(
     match add_misfit(alloc, &mut steps, has_facts, module, &misfit.place) {
         Ok(()) => Some(Found {
             spot: Spot::Misfit,
-            place: Place { steps },
+            place: JsonPointer { steps },
             reason: None,
         }),
         Err(_) => None,
@@ -38,14 +38,14 @@ fn add_misfit(
     steps: &mut Vec<Step>,
     has_facts: bool,
     module: &Module,
-    place: &MisfitPlace,
+    place: &Place,
 ) -> Result<(), AllocError> {
     match place {
-        MisfitPlace::TypeInfos => add_field(steps, "facts", "type_infos"),
-        MisfitPlace::StorageLayout(info) => add_layout(steps, *info, "storage_layout"),
-        MisfitPlace::UniformLayout(info) => add_layout(steps, *info, "uniform_layout"),
-        MisfitPlace::GlobalTypes => add_global_types(steps, has_facts),
-        MisfitPlace::InType(owner, field) => add_type(steps, has_facts, *owner, *field),
+        Place::TypeInfos => add_field(steps, "facts", "type_infos"),
+        Place::StorageLayout(info) => add_layout(steps, *info, "storage_layout"),
+        Place::UniformLayout(info) => add_layout(steps, *info, "uniform_layout"),
+        Place::GlobalTypes => add_global_types(steps, has_facts),
+        Place::InType(owner, field) => add_type(steps, has_facts, *owner, *field),
         _ => {
             add_name(steps, "module")?;
             add_in_module(alloc, steps, module, place)
@@ -107,18 +107,17 @@ fn add_in_module(
     alloc: Global,
     steps: &mut Vec<Step>,
     module: &Module,
-    place: &MisfitPlace,
+    place: &Place,
 ) -> Result<(), AllocError> {
     match place {
-        MisfitPlace::RayDesc => add_field(steps, "special_types", "ray_desc"),
-        MisfitPlace::ConstantType(index) => add_item(steps, "constants", *index),
-        MisfitPlace::OverrideType(index) => add_item(steps, "overrides", *index),
-        MisfitPlace::InGlobal(index, _) => add_item(steps, "global_variables", *index),
-        MisfitPlace::Operand(Owner::Module, index, _)
-        | MisfitPlace::Reference(Owner::Module, index) => {
+        Place::RayDesc => add_field(steps, "special_types", "ray_desc"),
+        Place::ConstantType(index) => add_item(steps, "constants", *index),
+        Place::OverrideType(index) => add_item(steps, "overrides", *index),
+        Place::InGlobal(index, _) => add_item(steps, "global_variables", *index),
+        Place::Operand(Owner::Module, index, _) | Place::Reference(Owner::Module, index) => {
             add_item(steps, "global_expressions", *index)
         }
-        MisfitPlace::InEntryPoint(index, field) => {
+        Place::InEntryPoint(index, field) => {
             add_item(steps, "entry_points", *index)?;
             add_entry_field(steps, *field)
         }
@@ -144,30 +143,30 @@ fn add_in_function(
     alloc: Global,
     steps: &mut Vec<Step>,
     module: &Module,
-    place: &MisfitPlace,
+    place: &Place,
 ) -> Result<(), AllocError> {
     match place {
-        MisfitPlace::Arguments(owner) => {
+        Place::Arguments(owner) => {
             add_owner(steps, *owner)?;
             add_name(steps, "arguments")
         }
-        MisfitPlace::ArgumentType(owner, index) => {
+        Place::ArgumentType(owner, index) => {
             add_owner(steps, *owner)?;
             add_item(steps, "arguments", *index)
         }
-        MisfitPlace::ResultType(owner) => {
+        Place::ResultType(owner) => {
             add_owner(steps, *owner)?;
             add_name(steps, "result")
         }
-        MisfitPlace::InLocal(owner, index, _) => {
+        Place::InLocal(owner, index, _) => {
             add_owner(steps, *owner)?;
             add_item(steps, "local_variables", *index)
         }
-        MisfitPlace::Operand(owner, index, _) | MisfitPlace::Reference(owner, index) => {
+        Place::Operand(owner, index, _) | Place::Reference(owner, index) => {
             add_owner(steps, *owner)?;
             add_item(steps, "expressions", *index)
         }
-        MisfitPlace::InStatement(owner, number, field) => {
+        Place::InStatement(owner, number, field) => {
             add_owner(steps, *owner)?;
             match body_of(module, *owner) {
                 Some(body) => add_statement(alloc, steps, body, *number, *field),
@@ -209,10 +208,10 @@ fn add_statement(
     number: usize,
     field: StatementField,
 ) -> Result<(), AllocError> {
-    let nodes = nodes_of(alloc, body)?;
+    let listed = statements_of(alloc, body)?;
     let position = match field {
         StatementField::BreakIf => Position::BreakIf(number),
         _ => Position::Statement(number),
     };
-    add_position(alloc, steps, position, nodes.as_slice())
+    add_position(alloc, steps, position, listed.as_slice())
 }

@@ -8,8 +8,8 @@ use std::alloc::{AllocError, Global};
 
 /// The module, with the number of each statement in its body as the span of the statement. An Err is out of memory.
 ///
-/// Numbers are those of [`nodes_of`](crate::nodes::nodes_of). No check reads spans, so both modules have one judgement,
-/// and the span of a fault in a body is the number of its statement.
+/// Numbers are those of [`statements_of`](crate::statements::statements_of). No check reads spans, so both modules have one
+/// judgement, and the span of a fault in a body is the number of its statement.
 pub fn numbered_module(alloc: Global, module: &Module) -> Result<Module, AllocError> {
     let mut numbered = Module::new(alloc);
     match number_to(alloc, module, &mut numbered) {

@@ -1,7 +1,7 @@
 //! Where in a document something stands, as a JSON pointer.
 
-use crate::nodes::{Inside, Node, Part, Position, way_to};
 use crate::spot::Spot;
+use crate::statements::{Inside, ListedStatement, Part, Position, way_to};
 use check_faults::Subject;
 use ir_misfits::Shortage;
 use json_nodes::Step;
@@ -13,13 +13,13 @@ use std::fmt;
 ///
 /// It leads through `statement` where a statement is written with a span other than 0..0.
 #[derive(Drop)]
-pub struct Place {
+pub struct JsonPointer {
     /// The first step leads from the whole document.
     pub steps: Vec<Step>,
 }
 
 /// Writes a slash before each step.
-impl fmt::Display for Place {
+impl fmt::Display for JsonPointer {
     fn fmt<W: fmt::Write>(&self, f: &mut fmt::Formatter<W>) -> fmt::Result {
         for step in self.steps.as_slice() {
             match step {
@@ -63,16 +63,16 @@ pub(crate) fn add_field(
     add_name(steps, field)
 }
 
-/// The place of what has a fault. `nodes` are the statements of the function's body. An Err is out of memory.
+/// The pointer to what has a fault. `listed` are the statements of the function's body. An Err is out of memory.
 pub(crate) fn place_of(
     alloc: Global,
     subject: Subject,
     spot: Spot,
-    nodes: &[Node<'_>],
-) -> Result<Place, AllocError> {
+    listed: &[ListedStatement<'_>],
+) -> Result<JsonPointer, AllocError> {
     let mut steps = Vec::new(alloc);
-    add_spot(alloc, &mut steps, subject, spot, nodes)?;
-    Ok(Place { steps })
+    add_spot(alloc, &mut steps, subject, spot, listed)?;
+    Ok(JsonPointer { steps })
 }
 
 /// Adds the way from the document to what has a fault.
@@ -81,7 +81,7 @@ fn add_spot(
     steps: &mut Vec<Step>,
     subject: Subject,
     spot: Spot,
-    nodes: &[Node<'_>],
+    listed: &[ListedStatement<'_>],
 ) -> Result<(), AllocError> {
     match spot {
         Spot::Facts(shortage) => add_shortage(steps, &subject, shortage),
@@ -98,7 +98,7 @@ fn add_spot(
         _ => {
             add_name(steps, "module")?;
             add_subject(steps, &subject)?;
-            add_inner(alloc, steps, subject, spot, nodes)
+            add_inner(alloc, steps, subject, spot, listed)
         }
     }
 }
@@ -153,7 +153,7 @@ fn add_inner(
     steps: &mut Vec<Step>,
     subject: Subject,
     spot: Spot,
-    nodes: &[Node<'_>],
+    listed: &[ListedStatement<'_>],
 ) -> Result<(), AllocError> {
     match spot {
         Spot::Field(field) => add_name(steps, field.name()),
@@ -165,7 +165,7 @@ fn add_inner(
             if let Subject::EntryPoint(_) = subject {
                 add_name(steps, "function")?;
             }
-            add_in_function(alloc, steps, spot, nodes)
+            add_in_function(alloc, steps, spot, listed)
         }
     }
 }
@@ -175,10 +175,10 @@ fn add_in_function(
     alloc: Global,
     steps: &mut Vec<Step>,
     spot: Spot,
-    nodes: &[Node<'_>],
+    listed: &[ListedStatement<'_>],
 ) -> Result<(), AllocError> {
     match spot {
-        Spot::At(position) => add_position(alloc, steps, position, nodes),
+        Spot::At(position) => add_position(alloc, steps, position, listed),
         Spot::Expression(handle) => add_item(steps, "expressions", handle.index()),
         Spot::Local(local) => add_item(steps, "local_variables", local.index()),
         Spot::Argument(index) => add_item(steps, "arguments", index),
@@ -191,13 +191,13 @@ pub(crate) fn add_position(
     alloc: Global,
     steps: &mut Vec<Step>,
     position: Position,
-    nodes: &[Node<'_>],
+    listed: &[ListedStatement<'_>],
 ) -> Result<(), AllocError> {
     add_name(steps, "body")?;
-    let way = way_to(alloc, nodes, position)?;
-    add_way(steps, way.as_slice(), nodes)?;
+    let way = way_to(alloc, listed, position)?;
+    add_way(steps, way.as_slice(), listed)?;
     if let Position::Statement(number) = position {
-        if let Some(node) = nodes.get(number) {
+        if let Some(node) = listed.get(number) {
             return add_index(steps, node.index);
         }
     }
@@ -205,9 +205,13 @@ pub(crate) fn add_position(
 }
 
 /// Adds the way from a body to a part inside it.
-fn add_way(steps: &mut Vec<Step>, way: &[Inside], nodes: &[Node<'_>]) -> Result<(), AllocError> {
+fn add_way(
+    steps: &mut Vec<Step>,
+    way: &[Inside],
+    listed: &[ListedStatement<'_>],
+) -> Result<(), AllocError> {
     for inside in way {
-        if let Some(node) = nodes.get(inside.number) {
+        if let Some(node) = listed.get(inside.number) {
             add_statement(steps, node)?;
             add_part(steps, inside.part)?;
         }
@@ -216,7 +220,7 @@ fn add_way(steps: &mut Vec<Step>, way: &[Inside], nodes: &[Node<'_>]) -> Result<
 }
 
 /// Adds the way from a list to one of its statements.
-fn add_statement(steps: &mut Vec<Step>, node: &Node<'_>) -> Result<(), AllocError> {
+fn add_statement(steps: &mut Vec<Step>, node: &ListedStatement<'_>) -> Result<(), AllocError> {
     add_index(steps, node.index)?;
     if node.located.span != Span::UNDEFINED {
         return add_name(steps, "statement");

@@ -1,6 +1,8 @@
 //! Why an expression can't be used where it is used.
 
-use crate::nodes::{Inside, Node, Part, Position, emits, loop_part, parts_around, way_to};
+use crate::statements::{
+    Inside, ListedStatement, Part, Position, emits, loop_part, parts_around, way_to,
+};
 use naga_below::{Handle, Statement, tag};
 use std::alloc::{AllocError, Global};
 
@@ -36,18 +38,18 @@ pub enum Reason {
 /// An Err is out of memory.
 pub(crate) fn reason_of(
     alloc: Global,
-    nodes: &[Node<'_>],
+    listed: &[ListedStatement<'_>],
     position: Position,
     handle: Handle<tag::Expression>,
 ) -> Result<Reason, AllocError> {
-    let way = way_to(alloc, nodes, position)?;
+    let way = way_to(alloc, listed, position)?;
     let mut reason = Reason::Never;
-    for (number, node) in nodes.iter().enumerate() {
+    for (number, node) in listed.iter().enumerate() {
         if emits(&node.located.statement, handle) {
-            let around = parts_around(alloc, nodes, number)?;
+            let around = parts_around(alloc, listed, number)?;
             reason = told(
                 reason,
-                found(nodes, position, number, around.as_slice(), way.as_slice()),
+                found(listed, position, number, around.as_slice(), way.as_slice()),
             );
         }
     }
@@ -58,15 +60,15 @@ pub(crate) fn reason_of(
 /// of memory.
 pub fn first_emission(
     alloc: Global,
-    nodes: &[Node<'_>],
+    listed: &[ListedStatement<'_>],
     position: Position,
     handle: Handle<tag::Expression>,
 ) -> Result<Option<usize>, AllocError> {
-    let way = way_to(alloc, nodes, position)?;
-    for (number, node) in nodes.iter().enumerate() {
+    let way = way_to(alloc, listed, position)?;
+    for (number, node) in listed.iter().enumerate() {
         if emits(&node.located.statement, handle) {
-            let around = parts_around(alloc, nodes, number)?;
-            match found(nodes, position, number, around.as_slice(), way.as_slice()) {
+            let around = parts_around(alloc, listed, number)?;
+            match found(listed, position, number, around.as_slice(), way.as_slice()) {
                 None | Some(Reason::Skipped { .. }) => return Ok(Some(number)),
                 Some(_) => {}
             }
@@ -96,7 +98,7 @@ fn is_later(reason: Reason) -> bool {
 /// What a statement that emits the expression shows, with the parts around it and those around the position. None where
 /// the expression is in scope at the position.
 fn found(
-    nodes: &[Node<'_>],
+    listed: &[ListedStatement<'_>],
     position: Position,
     emitted: usize,
     around: &[Inside],
@@ -121,7 +123,7 @@ fn found(
             list: *list,
             ended_loop: outermost_loop(ended),
         }),
-        None => skipped(nodes, emitted, *first),
+        None => skipped(listed, emitted, *first),
     }
 }
 
@@ -168,9 +170,9 @@ fn has_one_scope(one: Inside, other: Option<&Inside>) -> bool {
 }
 
 /// That a Continue may skip what a statement of the body list of a Loop emits.
-fn skipped(nodes: &[Node<'_>], emitted: usize, list: Inside) -> Option<Reason> {
+fn skipped(listed: &[ListedStatement<'_>], emitted: usize, list: Inside) -> Option<Reason> {
     let holder = list.number;
-    let jump = first_continue(nodes, list)?;
+    let jump = first_continue(listed, list)?;
     Some(Reason::Skipped {
         emitted,
         holder,
@@ -179,10 +181,10 @@ fn skipped(nodes: &[Node<'_>], emitted: usize, list: Inside) -> Option<Reason> {
 }
 
 /// The first Continue that ends a turn of the Loop with this body.
-fn first_continue(nodes: &[Node<'_>], list: Inside) -> Option<usize> {
-    for (number, node) in nodes.iter().enumerate() {
+fn first_continue(listed: &[ListedStatement<'_>], list: Inside) -> Option<usize> {
+    for (number, node) in listed.iter().enumerate() {
         if matches!(node.located.statement, Statement::Continue)
-            && loop_part(nodes, number) == Some(list)
+            && loop_part(listed, number) == Some(list)
         {
             return Some(number);
         }

@@ -1,7 +1,7 @@
 //! What of a function or of an entry point has a fault.
 
-use crate::nodes::{Node, Position};
 use crate::parts::{Bound, Group, bounds_of, first_of, members_of, second_of};
+use crate::statements::{ListedStatement, Position};
 use check_faults::EntryPointError;
 use ir_misfits::Shortage;
 use naga_below::{
@@ -13,7 +13,7 @@ use std::alloc::{AllocError, Global};
 
 /// A field of an entry point.
 #[derive(Clone, Copy, PartialEq)]
-pub enum EntryField {
+pub enum EntryPart {
     Stage,
     EarlyDepthTest,
     WorkgroupSize,
@@ -21,15 +21,15 @@ pub enum EntryField {
     TaskPayload,
 }
 
-impl EntryField {
+impl EntryPart {
     /// Its name in a document.
     pub fn name(self) -> &'static str {
         match self {
-            EntryField::Stage => "stage",
-            EntryField::EarlyDepthTest => "early_depth_test",
-            EntryField::WorkgroupSize => "workgroup_size",
-            EntryField::MeshInfo => "mesh_info",
-            EntryField::TaskPayload => "task_payload",
+            EntryPart::Stage => "stage",
+            EntryPart::EarlyDepthTest => "early_depth_test",
+            EntryPart::WorkgroupSize => "workgroup_size",
+            EntryPart::MeshInfo => "mesh_info",
+            EntryPart::TaskPayload => "task_payload",
         }
     }
 }
@@ -70,7 +70,7 @@ pub enum Spot {
     Member { ty: Handle<tag::Type>, index: usize },
     Global(Handle<tag::GlobalVariable>),
     /// A field of the entry point.
-    Field(EntryField),
+    Field(EntryPart),
     /// A field of the entry point's `mesh_info`.
     MeshField(MeshField),
     /// The facts about the function.
@@ -84,12 +84,12 @@ pub enum Spot {
 /// What of a function has a fault. `number` is that of the statement that has it, where one has.
 pub(crate) fn spot_in_function(
     function: &Function,
-    nodes: &[Node<'_>],
+    listed: &[ListedStatement<'_>],
     fault: &FunctionError,
     number: Option<usize>,
 ) -> Spot {
     match number {
-        Some(number) => match nodes.get(number) {
+        Some(number) => match listed.get(number) {
             Some(node) => Spot::At(position_of(&node.located.statement, number)),
             None => Spot::Whole,
         },
@@ -207,7 +207,7 @@ fn returned_spot(
     fault: &VaryingError,
 ) -> Result<Spot, AllocError> {
     if is_early_test(ep, fault) {
-        return Ok(Spot::Field(EntryField::EarlyDepthTest));
+        return Ok(Spot::Field(EntryPart::EarlyDepthTest));
     }
     if let Some(mesh) = &ep.mesh_info {
         let bounds = bounds_of(alloc, module, ep, Group::Mesh)?;
@@ -249,7 +249,7 @@ fn mesh_spot(module: &Module, mesh: &MeshStageInfo, fault: &VaryingError) -> Spo
             };
             Spot::Member { ty, index }
         }
-        _ => Spot::Field(EntryField::MeshInfo),
+        _ => Spot::Field(EntryPart::MeshInfo),
     }
 }
 
@@ -260,18 +260,18 @@ fn field_spot(module: &Module, ep: &EntryPoint, fault: &EntryPointError) -> Spot
             ShaderStage::Mesh => Spot::MeshField(MeshField::VertexOutputType),
             _ => Spot::Returned,
         },
-        EntryPointError::UnexpectedEarlyDepthTest => Spot::Field(EntryField::EarlyDepthTest),
+        EntryPointError::UnexpectedEarlyDepthTest => Spot::Field(EntryPart::EarlyDepthTest),
         EntryPointError::UnexpectedWorkgroupSize | EntryPointError::OutOfRangeWorkgroupSize => {
-            Spot::Field(EntryField::WorkgroupSize)
+            Spot::Field(EntryPart::WorkgroupSize)
         }
         EntryPointError::ForbiddenStageOperations
         | EntryPointError::RayPayloadInInvalidStage(_)
-        | EntryPointError::IncomingRayPayloadInInvalidStage(_) => Spot::Field(EntryField::Stage),
+        | EntryPointError::IncomingRayPayloadInInvalidStage(_) => Spot::Field(EntryPart::Stage),
         EntryPointError::UnsupportedCapability(missing) => {
             if *missing == Capabilities::MESH_SHADER_POINT_TOPOLOGY {
                 Spot::MeshField(MeshField::Topology)
             } else {
-                Spot::Field(EntryField::Stage)
+                Spot::Field(EntryPart::Stage)
             }
         }
         EntryPointError::InvalidGlobalUsage(global, _)
@@ -280,7 +280,7 @@ fn field_spot(module: &Module, ep: &EntryPoint, fault: &EntryPointError) -> Spot
         | EntryPointError::TaskPayloadWrongAddressSpace
         | EntryPointError::ExpectedTaskPayload
         | EntryPointError::WrongTaskPayloadUsed
-        | EntryPointError::TaskPayloadTooSmall(_) => Spot::Field(EntryField::TaskPayload),
+        | EntryPointError::TaskPayloadTooSmall(_) => Spot::Field(EntryPart::TaskPayload),
         EntryPointError::WrongTaskShaderEntryResult
         | EntryPointError::UnexpectedMeshShaderEntryResult => Spot::Returned,
         _ => mesh_field_spot(module, ep, fault),
@@ -293,7 +293,7 @@ fn mesh_field_spot(module: &Module, ep: &EntryPoint, fault: &EntryPointError) ->
         EntryPointError::ExpectedMeshShaderAttributes
         | EntryPointError::UnexpectedMeshShaderAttributes
         | EntryPointError::BadMeshOutputVariableType
-        | EntryPointError::BadMeshOutputVariableField => Spot::Field(EntryField::MeshInfo),
+        | EntryPointError::BadMeshOutputVariableField => Spot::Field(EntryPart::MeshInfo),
         EntryPointError::WrongMeshOutputAddressSpace => Spot::MeshField(MeshField::OutputVariable),
         EntryPointError::InvalidMeshPrimitiveOutputType => Spot::MeshField(
             MeshField::PrimitiveOutputType,

@@ -2,14 +2,14 @@
 //! Part of `naga_judge`; no promise to users.
 #![tactic(auto)]
 
-pub mod error;
-pub mod expected;
-pub mod from_json;
-pub mod list;
-pub mod number;
+mod error;
+mod expected;
+mod from_json;
+mod list;
+mod number;
 mod scalars;
 mod set;
-pub mod variant;
+mod variant;
 
 pub use crate::error::{ReadError, Unreadable};
 pub use crate::expected::expected_fields;

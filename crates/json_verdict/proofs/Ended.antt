@@ -54,7 +54,8 @@ replies_push (t ∷ ts) out status text line this (first, rest, a, others, is, m
 )
 
 -- nothing has come in
-pub follows_none : (s : Stream) (start : Option (List ℕ)) → Holds s.bytes [] → s.is_begun ≡ false → s.status ≡ 0 → Follows s [] start start
+pub follows_none : (s : Stream) (start : Option (List ℕ)) → Holds s.bytes [] → s.is_begun ≡ false → s.status ≡ 0
+    → Follows s [] start start
 unfolding AreReplies
 follows_none s start kept begun status = record {
   done = [];
@@ -69,13 +70,16 @@ follows_none s start kept begun status = record {
 }
 
 -- bytes that are no newline
-pub follows_part : (s t : Stream) (input part : List ℕ) (old new : Option (List ℕ)) → IsPlain part → is_begun part ≡ true → Follows s input old new
-    → ((text : List ℕ) → Holds s.bytes text → Holds t.bytes (text ++ part)) → t.is_begun ≡ true → t.status ≡ s.status → Follows t (input ++ part) old new
+pub follows_part : (s t : Stream) (input part : List ℕ) (old new : Option (List ℕ)) → IsPlain part → is_begun part ≡ true
+    → Follows s input old new
+    → ((text : List ℕ) → Holds s.bytes text → Holds t.bytes (text ++ part)) → t.is_begun ≡ true → t.status ≡ s.status
+    → Follows t (input ++ part) old new
 follows_part s t input part old new plain more f kept begun status = record {
   done = f.done;
   line = f.line ++ part;
   out = f.out;
-  lines = λ rest. ap lines_of (append_assoc input part rest) ∙ f.lines (part ++ rest) ∙ ap (λ l. f.done ++ lines_of l) (sym (append_assoc f.line part rest));
+  lines = λ rest. ap lines_of (append_assoc input part rest) ∙ f.lines (part ++ rest)
+      ∙ ap (λ l. f.done ++ lines_of l) (sym (append_assoc f.line part rest));
   replies = subst (AreReplies f.done f.out) (sym status) f.replies;
   written = f.written;
   kept = kept f.line f.kept;
@@ -88,7 +92,8 @@ no_byte [] none = refl
 no_byte (b ∷ bs) none = absurd (omega (arith, none))
 
 -- no byte
-pub follows_nothing : (s : Stream) (input part : List ℕ) (old new : Option (List ℕ)) → part ≡ [] → Follows s input old new → Follows s (input ++ part) old new
+pub follows_nothing : (s : Stream) (input part : List ℕ) (old new : Option (List ℕ)) → part ≡ [] → Follows s input old new
+    → Follows s (input ++ part) old new
 follows_nothing s input part old new none f =
     subst (λ seen. Follows s seen old new) (sym (ap (λ l. input ++ l) none ∙ append-nil input)) f
 
@@ -103,16 +108,18 @@ line_cut seen line after =
 
 -- a newline
 pub follows_end : (s t : Stream) (input : List ℕ) (old mid new : Option (List ℕ)) (this : ℕ) → Follows s input old mid
-    → ((text : List ℕ) → Holds s.bytes text → Replies forms.Json text mid new this) → Holds t.bytes [] → t.is_begun ≡ false → t.status ≡ max s.status this
-    → Follows t (input ++ 10 ∷ []) old new
+    → ((text : List ℕ) → Holds s.bytes text → Replies forms.Json text mid new this) → Holds t.bytes []
+    → t.is_begun ≡ false → t.status ≡ max s.status this → Follows t (input ++ 10 ∷ []) old new
 follows_end s t input old mid new this f told kept begun status =
     let (line, reply, written) = told f.line f.kept in record {
       done = f.done ++ f.line ∷ [];
       line = [];
       out = f.out ++ line;
-      lines = λ more. ap lines_of (append_assoc input (10 ∷ []) more) ∙ f.lines (10 ∷ more) ∙ ap (λ l. f.done ++ l) (plain_end f.line more f.plain)
+      lines = λ more. ap lines_of (append_assoc input (10 ∷ []) more) ∙ f.lines (10 ∷ more)
+          ∙ ap (λ l. f.done ++ l) (plain_end f.line more f.plain)
           ∙ sym (append_assoc f.done (f.line ∷ []) (lines_of more));
-      replies = subst (AreReplies (f.done ++ f.line ∷ []) (f.out ++ line)) (sym status) (replies_push f.done f.out s.status f.line line this f.replies reply);
+      replies = subst (AreReplies (f.done ++ f.line ∷ []) (f.out ++ line)) (sym status)
+          (replies_push f.done f.out s.status f.line line this f.replies reply);
       written = Appends-trans old mid new f.out line f.written written;
       kept = kept;
       plain = tt;
@@ -120,28 +127,36 @@ follows_end s t input old mid new this f told kept begun status =
     }
 
 -- the input is the lines that have ended, and the one that is being read
-all_lines : (s : Stream) (input : List ℕ) (old new : Option (List ℕ)) (f : Follows s input old new) → lines_of input ≡ f.done ++ lines_of f.line
-all_lines s input old new f = ap lines_of (sym (append-nil input)) ∙ f.lines [] ∙ ap (λ l. f.done ++ lines_of l) (append-nil f.line)
+all_lines : (s : Stream) (input : List ℕ) (old new : Option (List ℕ)) (f : Follows s input old new)
+    → lines_of input ≡ f.done ++ lines_of f.line
+all_lines s input old new f =
+    ap lines_of (sym (append-nil input)) ∙ f.lines [] ∙ ap (λ l. f.done ++ lines_of l) (append-nil f.line)
 
 -- the input has ended in a line
-pub follows_last : (s : Stream) (input : List ℕ) (old mid new : Option (List ℕ)) (this : ℕ) → Follows s input old mid → s.is_begun ≡ true
-    → ((text : List ℕ) → Holds s.bytes text → Replies forms.Json text mid new this) → RepliesToLines input old new (max s.status this)
+pub follows_last : (s : Stream) (input : List ℕ) (old mid new : Option (List ℕ)) (this : ℕ) → Follows s input old mid
+    → s.is_begun ≡ true → ((text : List ℕ) → Holds s.bytes text → Replies forms.Json text mid new this)
+    → RepliesToLines input old new (max s.status this)
 follows_last s input old mid new this f begun told =
     let (line, reply, written) = told f.line f.kept in
-    let last : lines_of input ≡ f.done ++ f.line ∷ [] = all_lines s input old mid f ∙ ap (λ l. f.done ++ l) (plain_last f.line f.plain (sym f.begun ∙ begun)) in (
+    let last : lines_of input ≡ f.done ++ f.line ∷ [] =
+    all_lines s input old mid f ∙ ap (λ l. f.done ++ l) (plain_last f.line f.plain (sym f.begun ∙ begun)) in (
       f.out ++ line,
-      subst (λ ls. AreReplies ls (f.out ++ line) (max s.status this)) (sym last) (replies_push f.done f.out s.status f.line line this f.replies reply),
+      subst (λ ls. AreReplies ls (f.out ++ line) (max s.status this)) (sym last)
+          (replies_push f.done f.out s.status f.line line this f.replies reply),
       Appends-trans old mid new f.out line f.written written,
     )
 
 -- the input has ended with a newline, or is empty
-pub follows_no_more : (s : Stream) (input : List ℕ) (old new : Option (List ℕ)) → Follows s input old new → s.is_begun ≡ false → RepliesToLines input old new s.status
+pub follows_no_more : (s : Stream) (input : List ℕ) (old new : Option (List ℕ)) → Follows s input old new → s.is_begun ≡ false
+    → RepliesToLines input old new s.status
 follows_no_more s input old new f begun =
-    let none : lines_of input ≡ f.done = all_lines s input old new f ∙ ap (λ l. f.done ++ lines_of l) (not_begun f.line (sym f.begun ∙ begun)) ∙ append-nil f.done in
+    let none : lines_of input ≡ f.done =
+    all_lines s input old new f ∙ ap (λ l. f.done ++ lines_of l) (not_begun f.line (sym f.begun ∙ begun)) ∙ append-nil f.done in
     (f.out, subst (λ ls. AreReplies ls f.out s.status) (sym none) f.replies, f.written)
 
 -- after a flush
-pub follows_kept : (s : Stream) (input : List ℕ) (old mid new : Option (List ℕ)) → Follows s input old mid → Keeps mid new → Follows s input old new
+pub follows_kept : (s : Stream) (input : List ℕ) (old mid new : Option (List ℕ)) → Follows s input old mid
+    → Keeps mid new → Follows s input old new
 follows_kept s input old mid new f kept = record {
   done = f.done;
   line = f.line;

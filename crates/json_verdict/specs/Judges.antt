@@ -64,18 +64,15 @@ abbrev pub first_misfit : Document → Option Misfit
 first_misfit d =
     first_fault (module_points (meaning_over d.known) (infos_over d.known d.module) d.module (types_over d.known d.module))
 
--- there was no memory, or the text is a document and its module has this fault
-abbrev pub Refuses : List ℕ → ModuleFault → Type 0
-Refuses text e = (e ≡ fault.Memory) ⊎ ((d : Document) × IsDocument text d × IsJudged d (Err e))
-
 -- The text is a document, this is its module, and these are the infos that its judgement answers; or there was no memory, or its
 -- judgement answers this fault; or the text is no document.
 abbrev pub Judges : List ℕ → judge.Verdict → Type 0
 Judges text (verdict.Accepted m infos) = (d : Document) × IsDocument text d × (d.module ≡ m) × IsJudged d (Ok infos)
-Judges text (verdict.Refused e) = Refuses text e
+Judges text (verdict.Refused e) = (e ≡ fault.Memory) ⊎ ((d : Document) × IsDocument text d × IsJudged d (Err e))
 Judges text (verdict.Unreadable unreadable) = (d : Document) → IsDocument text d → ⊥
 
 -- Where the verdict is that the module doesn't fit, the text is a document that is judged so, and this is its first misfit.
 abbrev pub HasMisfit : List ℕ → judge.Verdict → Option Misfit → Type 0
 HasMisfit text v misfit =
-    v ≡ verdict.Refused fault.NotFit → (d : Document) × IsDocument text d × IsJudged d (Err fault.NotFit) × (misfit ≡ first_misfit d)
+    v ≡ verdict.Refused fault.NotFit → (d : Document) × IsDocument text d × IsJudged d (Err fault.NotFit)
+    × (misfit ≡ first_misfit d)

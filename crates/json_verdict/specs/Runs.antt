@@ -15,11 +15,12 @@ use Rattle.json_answers.specs.declared.form.Form.TheVariants as forms
 unfoldable pub IsLineOf : Form → Option Id → judge.Verdict → Option Misfit → List ℕ → Type 0
 IsLineOf form id v misfit line = (text : List ℕ) × IsTextOf form id v misfit text × (line ≡ text ++ codes "\n")
 
--- The line and the status of a verdict of this text. That there was no memory is a verdict of each text (`Judges`), and needs no id.
+-- The line and the status of a verdict of this text. That there was no memory is a verdict of each text (`Judges`), and needs
+-- no id.
 unfoldable pub IsReply : Form → List ℕ → List ℕ → ℕ → Type 0
 IsReply form text line status =
-    (id : Option Id) × (v : judge.Verdict) × (misfit : Option Misfit) × Judges text v × HasMisfit text v misfit × HasItsId text v id
-    × IsLineOf form id v misfit line × (status ≡ status_of v)
+    (id : Option Id) × (v : judge.Verdict) × (misfit : Option Misfit) × Judges text v × HasMisfit text v misfit
+    × HasItsId text v id × IsLineOf form id v misfit line × (status ≡ status_of v)
 
 -- the reply to the text was written, and nothing else
 abbrev pub Replies : Form → List ℕ → Option (List ℕ) → Option (List ℕ) → ℕ → Type 0

@@ -10,9 +10,9 @@ ghost use Rattle.json_answers.specs.VerdictIds.{HasItsId};
 ghost use Rattle.json_answers.specs.declared.verdict.Verdict.TheVariants as verdicts;
 
 use crate::basis::Basis;
-use crate::find::locate;
+use crate::find::JudgedModule;
 use ir_module::module::drop_module;
-use json_answers::{Examined, Refused, Verdict, alone};
+use json_answers::{Examined, RefusedModule, Verdict, alone};
 use json_document::{Document, Id, ReadError, Reading, Scratch, read_text};
 use json_places::{Found, locate_misfit};
 use naga_below::{Module, Settings};
@@ -31,18 +31,11 @@ fn misfit_of(module: &Module, basis: &Basis, fault: &ModuleFault) -> Option<Misf
 }
 
 /// Finds where a fault stands. None out of memory too.
-fn find(
-    alloc: Global,
-    settings: Settings,
-    module: &Module,
-    basis: &Basis,
-    fault: &ModuleFault,
-    misfit: &Option<Misfit>,
-) -> Option<Found> {
+fn find(alloc: Global, judged: JudgedModule<'_>, misfit: &Option<Misfit>) -> Option<Found> {
     if let Some(misfit) = misfit {
-        return locate_misfit(alloc, basis.layer.is_some(), module, misfit);
+        return locate_misfit(alloc, judged.basis.layer.is_some(), judged.module, misfit);
     }
-    locate(alloc, basis, settings, module, fault)
+    judged.locate(alloc)
 }
 
 /// A module that is refused with this fault, what doesn't fit, and where the fault stands.
@@ -60,12 +53,18 @@ fn refusal(
         basis.now.given.types.items «module» basis.now.given.global_types.items) }
 {
     let misfit = misfit_of(&module, basis, &fault);
-    let found = find(alloc, settings, &module, basis, &fault, &misfit);
+    let judged = JudgedModule {
+        basis,
+        settings,
+        module: &module,
+        fault: &fault,
+    };
+    let found = find(alloc, judged, &misfit);
     Examined {
         id,
         verdict: Verdict::Refused(fault),
         misfit,
-        refused: Some(Refused {
+        refused: Some(RefusedModule {
             module,
             is_computed: basis.layer.is_none(),
             found,

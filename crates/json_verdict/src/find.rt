@@ -11,25 +11,60 @@ use naga_below::{Module, Settings, Span};
 use naga_module::{Facts, ModuleFault};
 use std::alloc::Global;
 
-/// Finds where the fault of a module stands. None of `NotFit` and `Memory`, which name nothing, and out of memory.
-/// [`locate_misfit`](json_places::locate_misfit) is for what doesn't fit.
-///
-/// The module is judged once more, over the same basis, with spans that number its statements: so its own spans need not
-/// distinguish them.
-pub(crate) fn locate(
-    alloc: Global,
-    basis: &Basis,
-    settings: Settings,
-    module: &Module,
-    fault: &ModuleFault,
-) -> Option<Found> {
-    let number = number_of(alloc, basis, settings, module, fault);
-    if number.is_none() && !spans_of(fault).is_empty() {
-        return None;
+/// A module that was judged and is refused: over what it was judged, with which settings, and its fault.
+#[derive(Clone, Copy)]
+pub(crate) struct JudgedModule<'a> {
+    pub basis: &'a Basis,
+    pub settings: Settings,
+    pub module: &'a Module,
+    pub fault: &'a ModuleFault,
+}
+
+impl JudgedModule<'_> {
+    /// Finds where the fault stands. None of `NotFit` and `Memory`, which name nothing, and out of memory.
+    /// [`locate_misfit`](json_places::locate_misfit) is for what doesn't fit.
+    ///
+    /// The module is judged once more, over the same basis, with spans that number its statements: so its own spans need not
+    /// distinguish them.
+    pub fn locate(self, alloc: Global) -> Option<Found> {
+        let number = self.number(alloc);
+        if number.is_none() && !spans_of(self.fault).is_empty() {
+            return None;
+        }
+        match found_in(alloc, facts_of(self.basis), self.module, self.fault, number) {
+            Ok(found) => found,
+            Err(_) => None,
+        }
     }
-    match found_in(alloc, facts_of(basis), module, fault, number) {
-        Ok(found) => found,
-        Err(_) => None,
+
+    /// The number of the statement that has the fault. None where no statement has it, and out of memory.
+    fn number(self, alloc: Global) -> Option<usize> {
+        if spans_of(self.fault).is_empty() {
+            return None;
+        }
+        match numbered_module(alloc, self.module) {
+            Ok(numbered) => {
+                let number = self.number_again(alloc, &numbered);
+                drop_module(numbered);
+                number
+            }
+            Err(_) => None,
+        }
+    }
+
+    /// The number of the statement that has the fault, by the same module whose spans are numbers.
+    fn number_again(self, alloc: Global, numbered: &Module) -> Option<usize> {
+        match self.basis.judge(alloc, self.settings, numbered) {
+            Ok(infos) => {
+                drop(infos);
+                None
+            }
+            Err(again) => {
+                let number = number_in(spans_of(&again));
+                drop_fault(again);
+                number
+            }
+        }
     }
 }
 
@@ -47,46 +82,5 @@ fn spans_of(fault: &ModuleFault) -> &[Span] {
         ModuleFault::Function(_, error) => error.spans(),
         ModuleFault::EntryPoint(_, error) => error.spans(),
         ModuleFault::NotFit | ModuleFault::Global(_, _) | ModuleFault::Memory => &[],
-    }
-}
-
-/// The number of the statement that has a fault. None where no statement has it, and out of memory.
-fn number_of(
-    alloc: Global,
-    basis: &Basis,
-    settings: Settings,
-    module: &Module,
-    fault: &ModuleFault,
-) -> Option<usize> {
-    if spans_of(fault).is_empty() {
-        return None;
-    }
-    match numbered_module(alloc, module) {
-        Ok(numbered) => {
-            let number = number_again(alloc, basis, settings, &numbered);
-            drop_module(numbered);
-            number
-        }
-        Err(_) => None,
-    }
-}
-
-/// The number of the statement that has the fault of a module whose spans are numbers.
-fn number_again(
-    alloc: Global,
-    basis: &Basis,
-    settings: Settings,
-    numbered: &Module,
-) -> Option<usize> {
-    match basis.judge(alloc, settings, numbered) {
-        Ok(infos) => {
-            drop(infos);
-            None
-        }
-        Err(again) => {
-            let number = number_in(spans_of(&again));
-            drop_fault(again);
-            number
-        }
     }
 }

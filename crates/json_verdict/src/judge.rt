@@ -25,6 +25,7 @@ pub fn judge(alloc: Global, text: &[u8]) -> Verdict
         refused,
     } = examine_text(alloc, text, &mut Scratch::new(alloc), false);
     drop(id);
+    // None, since no fault was located. What owns a module is dropped by a call all the same.
     if let Some(refused) = refused {
         drop_refused(refused);
     }

@@ -13,4 +13,4 @@ mod text;
 
 pub use json_answers::line::json_line;
 pub use json_answers::lines::{write_examined, write_lines};
-pub use json_answers::{Examined, Refused, Verdict};
+pub use json_answers::{Examined, RefusedModule, Verdict};

@@ -4,7 +4,7 @@ ghost use Rattle.std.specs.Prelude.{ℕ, List, None, IfOk, string_bytes};
 ghost use Rattle.check_faults.specs.declared.module.ModuleFault.TheVariants as faults;
 ghost use Rattle.json_answers.specs.declared.verdict.Verdict.TheVariants as verdicts;
 ghost use Rattle.json_verdict.specs.Runs.{IsLineOf, Replies};
-ghost use Rattle.json_verdict.specs.walk.Stream.{Holds, Tells};
+ghost use Rattle.json_verdict.specs.walk.Stream.{Holds, WritesLineOrMemory};
 
 use crate::text::Bytes;
 use json_answers::form::text_of;
@@ -37,7 +37,7 @@ fn memory_line(form: Form) -> &'static [u8]
 
 /// Writes a verdict, and answers its exit status. If there is no memory for its text, both are those of out of memory.
 fn reply<W: Write>(alloc: Global, writer: &mut W, examined: &Examined, form: Form) -> io::Result<u8>
-    ensures { IfOk result (λ status. Tells form examined.now.id examined.now.verdict examined.now.misfit (W.contents writer.old) (W.contents writer.new) status) }
+    ensures { IfOk result (λ status. WritesLineOrMemory form examined.now.id examined.now.verdict examined.now.misfit (W.contents writer.old) (W.contents writer.new) status) }
 {
     match line_of(alloc, examined, form) {
         Ok(line) => {

@@ -41,7 +41,31 @@ computed (e.Derivative d hs) given = or_broken rule.Detail (option_map (λ o. de
 computed (e.Relational d hs) given = or_broken rule.Detail (option_map (λ f. related f given) (slice_get relational_functions d))
 computed (e.Math d hs) given = or_broken rule.Detail (option_map (λ f. math_of (class_of f) given) (slice_get functions d))
 computed (e.As d hs) given = or_broken rule.Detail (option_map (λ c. cast_of c given) (casts.cast_of d))
-computed _ given = Ok None
+computed (e.Literal l) given = Ok None
+computed (e.Constant h) given = Ok None
+computed (e.Override h) given = Ok None
+computed (e.ZeroValue t) given = Ok None
+computed (e.Compose t hs) given = Ok None
+computed (e.Access base index) given = Ok None
+computed (e.AccessIndex base k) given = Ok None
+computed (e.FunctionArgument n) given = Ok None
+computed (e.GlobalVariable h) given = Ok None
+computed (e.LocalVariable h) given = Ok None
+computed (e.Load pointer) given = Ok None
+computed (e.CallResult f) given = Ok None
+computed (e.AtomicResult t c) given = Ok None
+computed (e.WorkGroupUniformLoadResult t) given = Ok None
+computed e.RayQueryProceedResult given = Ok None
+computed e.SubgroupBallotResult given = Ok None
+computed (e.SubgroupOperationResult t) given = Ok None
+computed (e.ImageSample d hs) given = Ok None
+computed (e.ImageLoad d hs) given = Ok None
+computed (e.ImageQuery d hs) given = Ok None
+computed (e.ArrayLength d hs) given = Ok None
+computed (e.RayQueryGetIntersection d hs) given = Ok None
+computed (e.RayQueryVertexPositions d hs) given = Ok None
+computed (e.CooperativeLoad d hs) given = Ok None
+computed (e.CooperativeMultiplyAdd d hs) given = Ok None
 
 -- the rule of each kind
 abbrev pub rule_of : Expression → Rule
@@ -54,7 +78,31 @@ rule_of (e.Derivative d hs) = rule.Derivative
 rule_of (e.Relational d hs) = rule.Relational
 rule_of (e.Math d hs) = rule.Math
 rule_of (e.As d hs) = rule.As
-rule_of _ = rule.Named
+rule_of (e.Literal l) = rule.Named
+rule_of (e.Constant h) = rule.Named
+rule_of (e.Override h) = rule.Named
+rule_of (e.ZeroValue t) = rule.Named
+rule_of (e.Compose t hs) = rule.Named
+rule_of (e.Access base index) = rule.Named
+rule_of (e.AccessIndex base k) = rule.Named
+rule_of (e.FunctionArgument n) = rule.Named
+rule_of (e.GlobalVariable h) = rule.Named
+rule_of (e.LocalVariable h) = rule.Named
+rule_of (e.Load pointer) = rule.Named
+rule_of (e.CallResult f) = rule.Named
+rule_of (e.AtomicResult t c) = rule.Named
+rule_of (e.WorkGroupUniformLoadResult t) = rule.Named
+rule_of e.RayQueryProceedResult = rule.Named
+rule_of e.SubgroupBallotResult = rule.Named
+rule_of (e.SubgroupOperationResult t) = rule.Named
+rule_of (e.ImageSample d hs) = rule.Named
+rule_of (e.ImageLoad d hs) = rule.Named
+rule_of (e.ImageQuery d hs) = rule.Named
+rule_of (e.ArrayLength d hs) = rule.Named
+rule_of (e.RayQueryGetIntersection d hs) = rule.Named
+rule_of (e.RayQueryVertexPositions d hs) = rule.Named
+rule_of (e.CooperativeLoad d hs) = rule.Named
+rule_of (e.CooperativeMultiplyAdd d hs) = rule.Named
 
 -- the value of a shape
 abbrev pub shape_value : Result Shape Rule → Result TypeResolution Rule
@@ -91,7 +139,31 @@ is_computed (e.Derivative d hs) = true
 is_computed (e.Relational d hs) = true
 is_computed (e.Math d hs) = true
 is_computed (e.As d hs) = true
-is_computed _ = false
+is_computed (e.Literal l) = false
+is_computed (e.Constant h) = false
+is_computed (e.Override h) = false
+is_computed (e.ZeroValue t) = false
+is_computed (e.Compose t hs) = false
+is_computed (e.Access base index) = false
+is_computed (e.AccessIndex base k) = false
+is_computed (e.FunctionArgument n) = false
+is_computed (e.GlobalVariable h) = false
+is_computed (e.LocalVariable h) = false
+is_computed (e.Load pointer) = false
+is_computed (e.CallResult f) = false
+is_computed (e.AtomicResult t c) = false
+is_computed (e.WorkGroupUniformLoadResult t) = false
+is_computed e.RayQueryProceedResult = false
+is_computed e.SubgroupBallotResult = false
+is_computed (e.SubgroupOperationResult t) = false
+is_computed (e.ImageSample d hs) = false
+is_computed (e.ImageLoad d hs) = false
+is_computed (e.ImageQuery d hs) = false
+is_computed (e.ArrayLength d hs) = false
+is_computed (e.RayQueryGetIntersection d hs) = false
+is_computed (e.RayQueryVertexPositions d hs) = false
+is_computed (e.CooperativeLoad d hs) = false
+is_computed (e.CooperativeMultiplyAdd d hs) = false
 
 -- the rules of these
 abbrev pub is_computing : Rule → Bool
@@ -121,7 +193,30 @@ type_of m arguments locals xs earlier (e.RayQueryGetIntersection d hs) = Err rul
 type_of m arguments locals xs earlier (e.RayQueryVertexPositions d hs) = Err rule.RayQuery
 type_of m arguments locals xs earlier (e.CooperativeLoad d hs) = cooperative_load m.types earlier hs d
 type_of m arguments locals xs earlier (e.CooperativeMultiplyAdd d hs) = multiply_add m.types earlier hs
-type_of m arguments locals xs earlier x = plain_type m arguments locals earlier x
+type_of m arguments locals xs earlier (e.Literal l) = plain_type m arguments locals earlier (e.Literal l)
+type_of m arguments locals xs earlier (e.Constant h) = plain_type m arguments locals earlier (e.Constant h)
+type_of m arguments locals xs earlier (e.Override h) = plain_type m arguments locals earlier (e.Override h)
+type_of m arguments locals xs earlier (e.ZeroValue t) = plain_type m arguments locals earlier (e.ZeroValue t)
+type_of m arguments locals xs earlier (e.Compose t hs) = plain_type m arguments locals earlier (e.Compose t hs)
+type_of m arguments locals xs earlier (e.FunctionArgument n) = plain_type m arguments locals earlier (e.FunctionArgument n)
+type_of m arguments locals xs earlier (e.GlobalVariable h) = plain_type m arguments locals earlier (e.GlobalVariable h)
+type_of m arguments locals xs earlier (e.LocalVariable h) = plain_type m arguments locals earlier (e.LocalVariable h)
+type_of m arguments locals xs earlier (e.AtomicResult t c) = plain_type m arguments locals earlier (e.AtomicResult t c)
+type_of m arguments locals xs earlier (e.WorkGroupUniformLoadResult t) =
+    plain_type m arguments locals earlier (e.WorkGroupUniformLoadResult t)
+type_of m arguments locals xs earlier e.RayQueryProceedResult = plain_type m arguments locals earlier e.RayQueryProceedResult
+type_of m arguments locals xs earlier e.SubgroupBallotResult = plain_type m arguments locals earlier e.SubgroupBallotResult
+type_of m arguments locals xs earlier (e.SubgroupOperationResult t) =
+    plain_type m arguments locals earlier (e.SubgroupOperationResult t)
+type_of m arguments locals xs earlier (e.Splat d hs) = plain_type m arguments locals earlier (e.Splat d hs)
+type_of m arguments locals xs earlier (e.Swizzle d hs) = plain_type m arguments locals earlier (e.Swizzle d hs)
+type_of m arguments locals xs earlier (e.Unary d hs) = plain_type m arguments locals earlier (e.Unary d hs)
+type_of m arguments locals xs earlier (e.Binary d hs) = plain_type m arguments locals earlier (e.Binary d hs)
+type_of m arguments locals xs earlier (e.Select d hs) = plain_type m arguments locals earlier (e.Select d hs)
+type_of m arguments locals xs earlier (e.Derivative d hs) = plain_type m arguments locals earlier (e.Derivative d hs)
+type_of m arguments locals xs earlier (e.Relational d hs) = plain_type m arguments locals earlier (e.Relational d hs)
+type_of m arguments locals xs earlier (e.Math d hs) = plain_type m arguments locals earlier (e.Math d hs)
+type_of m arguments locals xs earlier (e.As d hs) = plain_type m arguments locals earlier (e.As d hs)
 
 -- go on with the type, or end with the expression that has none
 abbrev pub or_untyped : {A : Type 0} → ℕ → (TypeResolution → Result A Untyped) → Result TypeResolution Rule → Result A Untyped

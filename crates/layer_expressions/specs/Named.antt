@@ -24,7 +24,15 @@ use Rattle.layer_shapes.specs.Shapes.{four_bytes}
 -- a global in Handle stands for itself, any other for a pointer to it
 abbrev pub global_type : ℕ → ℕ → AddressSpace → Option TypeResolution
 global_type count t space.Handle = type_at count t
-global_type count t p = pointer_to count t p
+global_type count t space.Function = pointer_to count t space.Function
+global_type count t space.Private = pointer_to count t space.Private
+global_type count t space.WorkGroup = pointer_to count t space.WorkGroup
+global_type count t space.Uniform = pointer_to count t space.Uniform
+global_type count t (space.Storage access) = pointer_to count t (space.Storage access)
+global_type count t space.Immediate = pointer_to count t space.Immediate
+global_type count t space.TaskPayload = pointer_to count t space.TaskPayload
+global_type count t space.RayPayload = pointer_to count t space.RayPayload
+global_type count t space.IncomingRayPayload = pointer_to count t space.IncomingRayPayload
 
 -- the result of a function that is called, which is there and has one
 abbrev pub result_type : ℕ → Option FunctionResult → Result TypeResolution Rule
@@ -53,4 +61,24 @@ named_type m arguments locals (e.WorkGroupUniformLoadResult t) = type_at (length
 named_type m arguments locals e.RayQueryProceedResult = Some (Value (inner.Scalar bool_scalar))
 named_type m arguments locals e.SubgroupBallotResult = Some (Value (inner.Vector Quad (four_bytes Uint)))
 named_type m arguments locals (e.SubgroupOperationResult t) = type_at (length m.types) t
-named_type m arguments locals _ = None
+named_type m arguments locals (e.Access base index) = None
+named_type m arguments locals (e.AccessIndex base k) = None
+named_type m arguments locals (e.Load pointer) = None
+named_type m arguments locals (e.CallResult f) = None
+named_type m arguments locals (e.Splat d hs) = None
+named_type m arguments locals (e.Swizzle d hs) = None
+named_type m arguments locals (e.ImageSample d hs) = None
+named_type m arguments locals (e.ImageLoad d hs) = None
+named_type m arguments locals (e.ImageQuery d hs) = None
+named_type m arguments locals (e.Unary d hs) = None
+named_type m arguments locals (e.Binary d hs) = None
+named_type m arguments locals (e.Select d hs) = None
+named_type m arguments locals (e.Derivative d hs) = None
+named_type m arguments locals (e.Relational d hs) = None
+named_type m arguments locals (e.Math d hs) = None
+named_type m arguments locals (e.As d hs) = None
+named_type m arguments locals (e.ArrayLength d hs) = None
+named_type m arguments locals (e.RayQueryGetIntersection d hs) = None
+named_type m arguments locals (e.RayQueryVertexPositions d hs) = None
+named_type m arguments locals (e.CooperativeLoad d hs) = None
+named_type m arguments locals (e.CooperativeMultiplyAdd d hs) = None

@@ -13,7 +13,7 @@ use Rattle.ir_leaves.specs.declared.scalars.VectorSize.TheVariants.{Quad}
 use Rattle.ir_types.specs.declared.typifier.TypeResolution.{TypeResolution}
 use Rattle.layer_forms.specs.declared.images.LevelKind.{LevelKind}
 use Rattle.layer_forms.specs.declared.images.LevelKind.TheVariants as level
-use Rattle.layer_forms.specs.declared.images.Sampling.{Sampling}
+use Rattle.layer_forms.specs.declared.images.SampleForm.{SampleForm}
 use Rattle.layer_forms.specs.ImageForms.{sampling_of}
 use Rattle.layer_expressions.specs.declared.images.Image.{Image}
 use Rattle.layer_expressions.specs.declared.rules.Rule.{Rule}
@@ -38,10 +38,10 @@ level_count level.Exact = 1
 level_count level.Bias = 1
 level_count level.Gradient = 2
 
-abbrev pub before_level : Sampling → ℕ
+abbrev pub before_level : SampleForm → ℕ
 before_level form = 3 + ones form.has_array_index + ones form.has_offset
 
-abbrev pub before_depth : Sampling → ℕ
+abbrev pub before_depth : SampleForm → ℕ
 before_depth form = before_level form + level_count form.level
 
 -- levels that have an operand, and the one that has two
@@ -68,7 +68,7 @@ comparison_at types earlier (Some h) = comparison_of (type_of_operand types earl
 abbrev pub comparison_among : List IrType → List TypeResolution → List ℕ → Option Bool
 comparison_among types earlier hs = comparison_at types earlier (slice_get hs 1)
 
-abbrev pub sampled_of : List IrType → List TypeResolution → Sampling → List ℕ → Sampled
+abbrev pub sampled_of : List IrType → List TypeResolution → SampleForm → List ℕ → Sampled
 sampled_of types earlier form hs =
     record {
       comparison = comparison_among types earlier hs;
@@ -82,7 +82,7 @@ sampled_of types earlier form hs =
 
 -- the classes: images of floats, and gathered of any numbers; of depths; external images are clamped to the edge, depths
 -- are not. None is multisampled, and a depth reference asks for depths
-abbrev pub takes_class : Sampling → ImageClass → Bool
+abbrev pub takes_class : SampleForm → ImageClass → Bool
 takes_class form (class.Sampled kind multi) = not multi && not form.has_depth_ref && (is_some form.gather || is_float kind)
 takes_class form (class.Depth multi) = not multi && not form.clamp_to_edge
 takes_class form class.External = form.clamp_to_edge && not form.has_depth_ref
@@ -99,7 +99,7 @@ can_be_clamped D2 = true
 can_be_clamped _ = false
 
 -- the dimensions: a gather is of two or of a cube; clamping is of two alone, not arrayed, without offset and gather
-abbrev pub takes_dimension : Sampling → Image → Bool
+abbrev pub takes_dimension : SampleForm → Image → Bool
 takes_dimension form image =
     (is_none form.gather || can_be_gathered image.dim)
     && (not form.clamp_to_edge || (can_be_clamped image.dim && not image.arrayed && not form.has_offset && is_none form.gather))
@@ -127,13 +127,13 @@ takes_level level.Gradient image sampled =
     && is_float_coordinate image.dim sampled.second_gradient
 
 -- a gather and clamping ask for level zero, a depth reference for it or the automatic one
-abbrev pub fits_level : Sampling → Bool
+abbrev pub fits_level : SampleForm → Bool
 fits_level form =
     (not (is_some form.gather || form.clamp_to_edge) || is_zero form.level)
     && (not form.has_depth_ref || not (has_level form.level))
 
 -- a sampler compares exactly where there is a depth reference
-abbrev pub takes_sampler : Sampling → Option Bool → Bool
+abbrev pub takes_sampler : SampleForm → Option Bool → Bool
 takes_sampler form None = false
 takes_sampler form (Some comparison) = if form.has_depth_ref then comparison else not comparison
 
@@ -143,7 +143,7 @@ takes_integer true is_there operand = is_there && is_integer_scalar operand
 takes_integer false is_there operand = not is_there
 
 -- the rules of a sample, in order
-abbrev pub sample_points : Sampling → Image → Sampled → List (Point Rule)
+abbrev pub sample_points : SampleForm → Image → Sampled → List (Point Rule)
 sample_points form image sampled =
     (takes_class form image.class && takes_dimension form image, rule.Image)
     ∷ (takes_sampler form sampled.comparison, rule.Sampler)
@@ -179,14 +179,14 @@ abbrev pub image_among : List IrType → List TypeResolution → List ℕ → Op
 image_among types earlier hs = image_at types earlier (slice_get hs 0)
 
 -- a sample of the image, where it breaks no rule
-abbrev pub sample_of_image : List IrType → List TypeResolution → Sampling → List ℕ → Option Image → Result Shape Rule
+abbrev pub sample_of_image : List IrType → List TypeResolution → SampleForm → List ℕ → Option Image → Result Shape Rule
 sample_of_image types earlier form hs None = Err rule.Image
 sample_of_image types earlier form hs (Some image) =
     answer (first_fault (sample_points form image (sampled_of types earlier form hs)))
     (sample_shape image.class (is_some form.gather))
 
 -- with as many operands as the form says
-abbrev pub sample_as : List IrType → List Expression → List TypeResolution → List ℕ → Option Sampling → Result Shape Rule
+abbrev pub sample_as : List IrType → List Expression → List TypeResolution → List ℕ → Option SampleForm → Result Shape Rule
 sample_as types expressions earlier hs None = Err rule.Detail
 sample_as types expressions earlier hs (Some form) =
     if length hs == before_depth form + ones form.has_depth_ref

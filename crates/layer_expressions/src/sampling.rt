@@ -17,7 +17,7 @@ use ir_leaves::scalars::{Scalar, ScalarKind, VectorSize};
 use ir_module::expressions::Expression;
 use ir_types::types::{ImageClass, Type};
 use ir_types::typifier::TypeResolution;
-use layer_forms::{LevelKind, Sampling};
+use layer_forms::{LevelKind, SampleForm};
 use layer_shapes::shapes::{Shape, four_bytes, is_float};
 
 /// What is known of the operands of an image sample behind the image.
@@ -54,7 +54,7 @@ fn level_count(level: LevelKind) -> usize
 }
 
 /// How many operands there are before the level.
-fn before_level(form: Sampling) -> usize
+fn before_level(form: SampleForm) -> usize
     ensures value { result ≡ before_level form }
     ensures small { result ≤ 5 }
 {
@@ -64,7 +64,7 @@ fn before_level(form: Sampling) -> usize
 }
 
 /// How many operands there are before the depth reference.
-fn before_depth(form: Sampling) -> usize
+fn before_depth(form: SampleForm) -> usize
     ensures value { result ≡ before_depth form }
     ensures small { result ≤ 7 }
 {
@@ -131,7 +131,7 @@ fn has_gradients(level: LevelKind) -> bool
 fn sampled_of(
     types: &[Type],
     earlier: &[TypeResolution],
-    form: Sampling,
+    form: SampleForm,
     operands: &[Handle<tag::Expression>],
 ) -> Sampled
     ensures { result ≡ sampled_of types.now earlier.now form operands.now }
@@ -157,7 +157,7 @@ fn sampled_of(
 }
 
 /// Whether images of a class can be sampled so.
-fn takes_class(form: Sampling, class: ImageClass) -> bool
+fn takes_class(form: SampleForm, class: ImageClass) -> bool
     ensures { result ≡ takes_class form class }
 {
     match class {
@@ -191,7 +191,7 @@ fn can_be_clamped(dim: ImageDimension) -> bool
 }
 
 /// Whether images of a dimension can be gathered, where they are, and clamped to the edge, where they are.
-fn takes_dimension(form: Sampling, image: &Image) -> bool
+fn takes_dimension(form: SampleForm, image: &Image) -> bool
     ensures { result ≡ takes_dimension form image.now }
 {
     let gathers = form.gather.is_none() || can_be_gathered(image.dim);
@@ -234,7 +234,7 @@ fn takes_exact(class: ImageClass, level: Option<Shape>) -> bool
 }
 
 /// Whether a level has the right operands.
-fn takes_level(form: Sampling, image: &Image, sampled: &Sampled) -> bool
+fn takes_level(form: SampleForm, image: &Image, sampled: &Sampled) -> bool
     ensures { result ≡ takes_level form.level image.now sampled.now }
 {
     match form.level {
@@ -250,7 +250,7 @@ fn takes_level(form: Sampling, image: &Image, sampled: &Sampled) -> bool
 }
 
 /// Whether a gather or clamping asks for the level of the whole image, and a depth reference for it or the automatic one.
-fn fits_level(form: Sampling) -> bool
+fn fits_level(form: SampleForm) -> bool
     ensures { result ≡ fits_level form }
 {
     let whole = form.gather.is_some() || form.clamp_to_edge;
@@ -258,7 +258,7 @@ fn fits_level(form: Sampling) -> bool
 }
 
 /// Whether the sampler compares exactly where there is a depth reference.
-fn takes_sampler(form: Sampling, comparison: Option<bool>) -> bool
+fn takes_sampler(form: SampleForm, comparison: Option<bool>) -> bool
     ensures { result ≡ takes_sampler form comparison }
 {
     match comparison {
@@ -285,7 +285,7 @@ pub(crate) fn takes_integer(is_asked: bool, is_there: bool, operand: Option<Shap
 }
 
 /// The first rule that a sample of an image breaks.
-fn sample_fault(form: Sampling, image: &Image, sampled: &Sampled) -> Option<Rule>
+fn sample_fault(form: SampleForm, image: &Image, sampled: &Sampled) -> Option<Rule>
     ensures { result ≡ first_fault (sample_points form image.now sampled.now) }
 {
     if !takes_class(form, image.class) || !takes_dimension(form, image) {
@@ -371,7 +371,7 @@ pub(crate) fn sample_type(
 ) -> Result<Shape, Rule>
     ensures { result ≡ sample_type types.now expressions.now earlier.now operands.now detail }
 {
-    let Some(form) = Sampling::from_detail(detail) else {
+    let Some(form) = SampleForm::from_detail(detail) else {
         return Err(Rule::Detail);
     };
     if operands.len() != before_depth(form) + ones(form.has_depth_ref) {

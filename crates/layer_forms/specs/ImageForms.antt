@@ -6,7 +6,7 @@ use Rattle.layer_forms.specs.declared.images.ImageQuery.TheVariants as query
 use Rattle.layer_forms.specs.declared.images.LevelKind.{LevelKind}
 use Rattle.layer_forms.specs.declared.images.LevelKind.TheVariants as level
 use Rattle.layer_forms.specs.declared.images.Loading.{Loading}
-use Rattle.layer_forms.specs.declared.images.Sampling.{Sampling}
+use Rattle.layer_forms.specs.declared.images.SampleForm.{SampleForm}
 use Rattle.layer_forms.specs.declared.vectors.SwizzleComponent.{SwizzleComponent}
 use Rattle.layer_forms.specs.Vectors.{components}
 
@@ -24,7 +24,7 @@ abbrev pub flag : ℕ → Bool
 flag n = n % 2 == 1
 
 -- gather, 5 times the level, and 25, 50, 100, 200 for an array index, an offset, a depth reference, clamping to the edge
-abbrev pub sampling_of : ℕ → Option Sampling
+abbrev pub sampling_of : ℕ → Option SampleForm
 sampling_of detail =
     if nat_lt detail 400
     then option_map (λ l. record {

@@ -17,7 +17,7 @@ pub enum LevelKind {
 
 /// What an `ImageSample` says beside its operands, and which of them there are.
 #[derive(Clone, Copy)]
-pub struct Sampling {
+pub struct SampleForm {
     pub gather: Option<SwizzleComponent>,
     pub level: LevelKind,
     pub has_array_index: bool,
@@ -83,16 +83,16 @@ fn flag(number: u32) -> bool
     number % 2 == 1
 }
 
-impl Sampling {
+impl SampleForm {
     /// The sampling that a number stands for.
-    pub fn from_detail(detail: u32) -> Option<Sampling>
+    pub fn from_detail(detail: u32) -> Option<SampleForm>
         ensures { result ≡ sampling_of detail }
     {
         if detail >= 400 {
             return None;
         }
         let level = level_from(detail / 5 % 5)?;
-        Some(Sampling {
+        Some(SampleForm {
             gather: gather_from(detail % 5),
             level,
             has_array_index: flag(detail / 25),

@@ -9,7 +9,7 @@ pub mod operators;
 pub mod vectors;
 
 pub use crate::casts::Cast;
-pub use crate::images::{ImageQuery, LevelKind, Loading, Sampling};
+pub use crate::images::{ImageQuery, LevelKind, Loading, SampleForm};
 pub use crate::math::{MathClass, MathFunction};
 pub use crate::operators::{
     BinaryOperator, Derivative, DerivativeAxis, DerivativeControl, RelationalFunction,

@@ -92,7 +92,13 @@ abbrev pub pointer_flags : AddressSpace → Bool → TypeFlags
 pointer_flags space.Function is_sized = argument_if true
 pointer_flags space.Private is_sized = argument_if true
 pointer_flags space.WorkGroup is_sized = argument_if is_sized
-pointer_flags _ is_sized = argument_if false
+pointer_flags space.Uniform is_sized = argument_if false
+pointer_flags (space.Storage access) is_sized = argument_if false
+pointer_flags space.Handle is_sized = argument_if false
+pointer_flags space.Immediate is_sized = argument_if false
+pointer_flags space.TaskPayload is_sized = argument_if false
+pointer_flags space.RayPayload is_sized = argument_if false
+pointer_flags space.IncomingRayPayload is_sized = argument_if false
 
 -- a type of these flags and this alignment, which fits every buffer
 abbrev pub info : TypeFlags → ℕ → TypeInfo

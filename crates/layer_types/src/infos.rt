@@ -21,7 +21,7 @@ use std::alloc::{AllocError, Global};
 ///
 /// A type that isn't well formed has no flags, and no buffer takes it.
 #[tactic(auto, unfolding(crate::specs::ComputedInfos::infos_from))]
-pub fn type_infos(
+pub fn infos_of_types(
     alloc: Global,
     types: &UniqueArena<Type>,
 ) -> Result<Sequence<TypeInfo>, AllocError>

@@ -1,4 +1,4 @@
-//! Layouts of types by WGSL's rules: sizes, alignments, and the infos of a module's types ([`type_infos`]).
+//! Layouts of types by WGSL's rules: sizes, alignments, and the infos of a module's types ([`infos_of_types`]).
 //! Part of `naga_layers`; no promise to users.
 #![tactic(auto)]
 
@@ -9,5 +9,5 @@ mod parts;
 pub mod sizes;
 mod structs;
 
-pub use crate::infos::type_infos;
+pub use crate::infos::infos_of_types;
 pub use crate::sizes::size_of;

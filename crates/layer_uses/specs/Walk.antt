@@ -11,9 +11,9 @@ use Rattle.ir_statements.specs.declared.operations.RayPipelineFunction.{RayPipel
 use Rattle.ir_statements.specs.declared.operations.RayPipelineFunction.TheVariants.{TraceRay}
 use Rattle.ir_statements.specs.declared.operations.RayQueryFunction.{RayQueryFunction}
 use Rattle.ir_statements.specs.declared.operations.RayQueryFunction.TheVariants as query
-use Rattle.ir_statements.specs.declared.statements.Statement.{Statement}
+use Rattle.ir_statements.specs.declared.statements.Statement.{Statement, Switch'}
 use Rattle.ir_statements.specs.declared.statements.Statement.TheVariants as s
-use Rattle.ir_statements.specs.Tree.{Stmt, Leaf, Block, Branch, Switch, Loop, Body, Done, Then, Cases, NoCase, OneCase}
+use Rattle.ir_statements.specs.Tree.{Stmt, Leaf, Block, Branch, Switch, Loop, Break, Continue, Return, Kill, Body, Done, Then, Cases, NoCase, OneCase}
 use Rattle.ir_types.specs.declared.types.AddressSpace.{AddressSpace}
 use Rattle.ir_types.specs.declared.types.AddressSpace.TheVariants as space
 use Rattle.layer_uses.specs.Joins.{with_use, all_joined}
@@ -77,7 +77,20 @@ module _ (globals : List GlobalVariable) (infos : ModuleInfo) (roots : List (Opt
   leaf_uses uses (s.RayQuery q fun) = query_uses roots uses fun
   leaf_uses uses (s.CooperativeStore target source) = with_use uses (root_at roots source.pointer) WRITE
   leaf_uses uses (s.RayPipelineFunction fun) = pipeline_uses roots uses fun
-  leaf_uses uses _ = uses
+  leaf_uses uses (s.Emit range) = uses
+  leaf_uses uses (s.Block body) = uses
+  leaf_uses uses (s.If condition accept reject) = uses
+  leaf_uses uses (Switch' selector shape row) = uses
+  leaf_uses uses (s.Loop body continuing break_if) = uses
+  leaf_uses uses s.Break = uses
+  leaf_uses uses s.Continue = uses
+  leaf_uses uses (s.Return value) = uses
+  leaf_uses uses s.Kill = uses
+  leaf_uses uses (s.ControlBarrier barrier) = uses
+  leaf_uses uses (s.MemoryBarrier barrier) = uses
+  leaf_uses uses (s.SubgroupBallot result predicate) = uses
+  leaf_uses uses (s.SubgroupCollectiveOperation op collective_op argument result) = uses
+  leaf_uses uses (s.SubgroupGather mode argument result) = uses
 
   -- each statement at any depth, whether or not it can be reached
   abbrev mutual
@@ -87,7 +100,10 @@ module _ (globals : List GlobalVariable) (infos : ModuleInfo) (roots : List (Opt
     statement_uses uses (Branch c a r) = body_uses (body_uses uses a) r
     statement_uses uses (Switch h cs) = cases_uses uses cs
     statement_uses uses (Loop b c q) = body_uses (body_uses uses b) c
-    statement_uses uses _ = uses
+    statement_uses uses Break = uses
+    statement_uses uses Continue = uses
+    statement_uses uses (Return value) = uses
+    statement_uses uses Kill = uses
 
     pub body_uses : List GlobalUse → Body → List GlobalUse
     body_uses uses Done = uses

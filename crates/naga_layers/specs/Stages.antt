@@ -11,7 +11,7 @@ use Rattle.ir_module.specs.declared.expressions.Expression.{Expression}
 use Rattle.ir_module.specs.declared.expressions.Expression.TheVariants as e
 use Rattle.layer_forms.specs.declared.images.LevelKind.{LevelKind}
 use Rattle.layer_forms.specs.declared.images.LevelKind.TheVariants as level
-use Rattle.layer_forms.specs.declared.images.Sampling.{Sampling}
+use Rattle.layer_forms.specs.declared.images.SampleForm.{SampleForm}
 use Rattle.layer_forms.specs.ImageForms.{sampling_of}
 
 -- a level that depends on neighbors needs the fragment stage
@@ -22,7 +22,7 @@ level_stages level.Zero = ALL_STAGES
 level_stages level.Exact = ALL_STAGES
 level_stages level.Gradient = ALL_STAGES
 
-abbrev pub sample_stages : Option Sampling → ShaderStages
+abbrev pub sample_stages : Option SampleForm → ShaderStages
 sample_stages None = ALL_STAGES
 sample_stages (Some form) = level_stages form.level
 
@@ -43,4 +43,30 @@ stages_of settings infos (Some e.SubgroupBallotResult) = Ok settings.subgroup_st
 stages_of settings infos (Some (e.SubgroupOperationResult t)) = Ok settings.subgroup_stages
 stages_of settings infos (Some (e.CooperativeLoad d hs)) = Ok COMPUTE
 stages_of settings infos (Some (e.CooperativeMultiplyAdd d hs)) = Ok COMPUTE
-stages_of settings infos _ = Ok ALL_STAGES
+stages_of settings infos None = Ok ALL_STAGES
+stages_of settings infos (Some (e.Literal l)) = Ok ALL_STAGES
+stages_of settings infos (Some (e.Constant h)) = Ok ALL_STAGES
+stages_of settings infos (Some (e.Override h)) = Ok ALL_STAGES
+stages_of settings infos (Some (e.ZeroValue t)) = Ok ALL_STAGES
+stages_of settings infos (Some (e.Compose t hs)) = Ok ALL_STAGES
+stages_of settings infos (Some (e.Access base index)) = Ok ALL_STAGES
+stages_of settings infos (Some (e.AccessIndex base k)) = Ok ALL_STAGES
+stages_of settings infos (Some (e.FunctionArgument n)) = Ok ALL_STAGES
+stages_of settings infos (Some (e.GlobalVariable h)) = Ok ALL_STAGES
+stages_of settings infos (Some (e.LocalVariable h)) = Ok ALL_STAGES
+stages_of settings infos (Some (e.Load pointer)) = Ok ALL_STAGES
+stages_of settings infos (Some (e.AtomicResult t c)) = Ok ALL_STAGES
+stages_of settings infos (Some e.RayQueryProceedResult) = Ok ALL_STAGES
+stages_of settings infos (Some (e.Splat d hs)) = Ok ALL_STAGES
+stages_of settings infos (Some (e.Swizzle d hs)) = Ok ALL_STAGES
+stages_of settings infos (Some (e.ImageLoad d hs)) = Ok ALL_STAGES
+stages_of settings infos (Some (e.ImageQuery d hs)) = Ok ALL_STAGES
+stages_of settings infos (Some (e.Unary d hs)) = Ok ALL_STAGES
+stages_of settings infos (Some (e.Binary d hs)) = Ok ALL_STAGES
+stages_of settings infos (Some (e.Select d hs)) = Ok ALL_STAGES
+stages_of settings infos (Some (e.Relational d hs)) = Ok ALL_STAGES
+stages_of settings infos (Some (e.Math d hs)) = Ok ALL_STAGES
+stages_of settings infos (Some (e.As d hs)) = Ok ALL_STAGES
+stages_of settings infos (Some (e.ArrayLength d hs)) = Ok ALL_STAGES
+stages_of settings infos (Some (e.RayQueryGetIntersection d hs)) = Ok ALL_STAGES
+stages_of settings infos (Some (e.RayQueryVertexPositions d hs)) = Ok ALL_STAGES

@@ -16,5 +16,5 @@ use std::alloc::{AllocError, Global};
 pub fn type_infos(alloc: Global, module: &Module) -> Result<Sequence<TypeInfo>, AllocError>
     ensures { IfOk result (λ infos. infos ≡ infos_from «module».now.types [] «module».now.types) }
 {
-    layer_types::type_infos(alloc, &module.types)
+    layer_types::infos_of_types(alloc, &module.types)
 }

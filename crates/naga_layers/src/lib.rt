@@ -4,8 +4,8 @@
 mod infos;
 mod kinds;
 mod lent;
-pub mod plain;
-pub mod recorded;
+mod plain;
+mod recorded;
 mod stages;
 mod typed;
 

@@ -10,10 +10,10 @@ use ir_facts::valid::info::{FunctionInfo, ModuleInfo};
 use ir_facts::valid::settings::Settings;
 use ir_flags::valid::ShaderStages;
 use ir_module::expressions::Expression;
-use layer_forms::{LevelKind, Sampling};
+use layer_forms::{LevelKind, SampleForm};
 
 /// The stages of an image sample of this form: where the level depends on neighbors, the fragment stage.
-fn sample_stages(form: Option<Sampling>) -> ShaderStages
+fn sample_stages(form: Option<SampleForm>) -> ShaderStages
     ensures { result ≡ sample_stages form }
 {
     match form {
@@ -46,7 +46,7 @@ pub(crate) fn stages_of(
     match expression {
         Some(Expression::Derivative { .. }) => Ok(ShaderStages::FRAGMENT),
         Some(Expression::ImageSample { detail, .. }) => {
-            Ok(sample_stages(Sampling::from_detail(*detail)))
+            Ok(sample_stages(SampleForm::from_detail(*detail)))
         }
         Some(Expression::CallResult(function)) => {
             callee_stages(infos.functions.as_slice().get(function.index()))

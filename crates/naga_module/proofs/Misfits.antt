@@ -19,7 +19,7 @@ use Rattle.ir_misfits.specs.declared.misfit.Place.{Place}
 use Rattle.ir_misfits.specs.declared.misfit.Place.TheVariants as place
 use Rattle.ir_misfits.specs.declared.misfit.Problem.TheVariants.{UnknownSize}
 use Rattle.ir_misfits.specs.declared.misfit.VariableField.TheVariants.{Ty}
-use Rattle.ir_misfits.specs.Points.{Points}
+use Rattle.ir_misfits.specs.MisfitPoints.{MisfitPoints}
 use Rattle.ir_fits.specs.OfTypes.{types_points}
 use Rattle.ir_fits.specs.OfGlobals.{globals_points}
 use Rattle.ir_fits.specs.OfFunctions.{function_points}
@@ -109,9 +109,9 @@ module_exact below types m global_types =
     (both ps4 (ps5 ++ ps6) P4 (P5 × P6) e4 (both ps5 ps6 P5 P6 e5 e6)))))
 
 -- an answer that is the first misfit: it is none exactly where what is asked for holds, and there is one elsewhere
-pub none_exactly : (o : Option Misfit) (ps : Points) (P : Type 0) → o ≡ first_fault ps → Exact ps P → (o ≡ None) ↔ P
+pub none_exactly : (o : Option Misfit) (ps : MisfitPoints) (P : Type 0) → o ≡ first_fault ps → Exact ps P → (o ≡ None) ↔ P
 none_exactly o ps P e exact = (λ none. exact.holds (sym e ∙ none), λ h. e ∙ exact.passes h)
 
-pub some_where : (o : Option Misfit) (ps : Points) (P : Type 0) → o ≡ first_fault ps → Exact ps P → (P → ⊥) → IsSome o
+pub some_where : (o : Option Misfit) (ps : MisfitPoints) (P : Type 0) → o ≡ first_fault ps → Exact ps P → (P → ⊥) → IsSome o
 some_where None ps P e exact fails = absurd (fails (exact.holds (sym e)))
 some_where (Some misfit) ps P e exact fails = refl

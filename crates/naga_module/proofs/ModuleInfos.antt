@@ -22,7 +22,7 @@ use Rattle.check_scope.specs.declared.trace.TraceState.{TraceState}
 use Rattle.check_laws.proofs.EntryBuiltIns.{accepted_built_ins}
 use Rattle.check_laws.proofs.EntryFacts.{accepted_position}
 use Rattle.naga_module.specs.ModuleInfos.{infos_before, IsJudgedEntry}
-use Rattle.naga_module.specs.ModuleJudgement.{Answer, Tested, Step, with_entry, first_infos, IsOfFunction, IsOfEntryPoint, EntriesAnswer, BehindFunctions, FunctionsAnswer, Fits, globals_step}
+use Rattle.naga_module.specs.ModuleJudgement.{Answer, Tested, AnswersStep, with_entry, first_infos, IsOfFunction, IsOfEntryPoint, EntriesAnswer, BehindFunctions, FunctionsAnswer, Fits, globals_step}
 use Rattle.naga_module.specs.ModuleLaw.{AcceptedModuleIsJudged}
 use Rattle.check_faults.specs.declared.module.ModuleFault.{ModuleFault}
 use Rattle.check_faults.specs.declared.module.ModuleFault.TheVariants as fault
@@ -38,7 +38,7 @@ record Found {A E : Type 0} (r : Result A E) (Next : A → Answer → Type 0) (o
   is : r ≡ Ok value
   next : Next value (Ok out)
 
-found : {A E : Type 0} (r : Result A E) (Makes : E → ModuleFault → Type 0) (Next : A → Answer → Type 0) (out : ModuleInfo) → Step r Makes Next (Ok out) → Found r Next out
+found : {A E : Type 0} (r : Result A E) (Makes : E → ModuleFault → Type 0) (Next : A → Answer → Type 0) (out : ModuleInfo) → AnswersStep r Makes Next (Ok out) → Found r Next out
 found (Ok x) Makes Next out a = record { value = x; is = refl; next = a }
 found (Err e) Makes Next out a = absurd a
 
@@ -97,7 +97,7 @@ module _ (below : Meaning) (settings : Settings) (types : List TypeInfo) (m : Mo
       record { trace = trace; infos = infos; vetted = vetted; all = omega arith; entries = none; next = a }
   behind_functions (f ∷ fs) trace infos vetted none left a =
       let tested = passed (FitsFunction f m (length infos.functions))
-      (Step (function_judgement below settings types trace m infos f false) (IsOfFunction (fault.Function (length infos.functions))) (λ (l : FunctionOutcome). FunctionsAnswer below settings types m l.trace (with_info infos l.info) fs)) out a in
+      (AnswersStep (function_judgement below settings types trace m infos f false) (IsOfFunction (fault.Function (length infos.functions))) (λ (l : FunctionOutcome). FunctionsAnswer below settings types m l.trace (with_info infos l.info) fs)) out a in
       let judged = found (function_judgement below settings types trace m infos f false) (IsOfFunction (fault.Function (length infos.functions))) (λ (l : FunctionOutcome). FunctionsAnswer below settings types m l.trace (with_info infos l.info) fs) out tested.1 in
       let place = next_of m.functions (length infos.functions) f fs left in
       let more = one_more_is_vetted below settings types trace m infos f judged.value vetted none place.0 tested.0 judged.is in
@@ -141,7 +141,7 @@ module _ (below : Meaning) (settings : Settings) (types : List TypeInfo) (m : Mo
       }
   entries_judged (p ∷ ps) trace infos a =
       let tested = passed (FitsFunction p.function m (length infos.functions) × FitsEntry p m)
-      (Step (entry_judgement below settings types trace m infos p) (IsOfEntryPoint (length infos.entry_points)) (λ (l : FunctionOutcome). EntriesAnswer below settings types m l.trace (with_entry infos l.info) ps)) out a in
+      (AnswersStep (entry_judgement below settings types trace m infos p) (IsOfEntryPoint (length infos.entry_points)) (λ (l : FunctionOutcome). EntriesAnswer below settings types m l.trace (with_entry infos l.info) ps)) out a in
       let judged = found (entry_judgement below settings types trace m infos p) (IsOfEntryPoint (length infos.entry_points)) (λ (l : FunctionOutcome). EntriesAnswer below settings types m l.trace (with_entry infos l.info) ps) out tested.1 in
       let info = judged.value.info in
       let rest = entries_judged ps judged.value.trace (with_entry infos info) judged.next in
@@ -200,7 +200,7 @@ module _ (below : Meaning) (settings : Settings) (types : List TypeInfo) (m : Mo
 pub module_is_judged : AcceptedModuleIsJudged
 module_is_judged below settings types global_types m out a =
     let tested = passed (Fits below settings types m global_types)
-    (Step (globals_step below settings types m (first_infos global_types)) (IsOfFunction (λ e. e)) (λ done. FunctionsAnswer below settings types m no_traces (first_infos global_types) m.functions)) out a in
+    (AnswersStep (globals_step below settings types m (first_infos global_types)) (IsOfFunction (λ e. e)) (λ done. FunctionsAnswer below settings types m no_traces (first_infos global_types) m.functions)) out a in
     let globals = found (globals_step below settings types m (first_infos global_types)) (IsOfFunction (λ e. e)) (λ done. FunctionsAnswer below settings types m no_traces (first_infos global_types) m.functions) out tested.1 in
     let none = none_is_vetted below settings types m (first_infos global_types) refl in
     let functions = behind_functions below settings types m out m.functions no_traces (first_infos global_types) none refl refl globals.next in

@@ -13,7 +13,7 @@ use Rattle.check_statement.specs.ValidatorParts.{no_traces}
 use Rattle.check_statement.specs.ValidatorParts.{Parts as Validator}
 use Rattle.check_scope.specs.declared.trace.TraceState.{TraceState}
 use Rattle.naga_module.specs.CodeModule.{Leads, EntriesStop}
-use Rattle.naga_module.specs.ModuleJudgement.{Answer, Step, IsOfFunction, globals_step, BehindFunctions, BehindTests, EntriesAnswer, FunctionsAnswer, IsJudgement, IsJudgementOrMemory, first_infos}
+use Rattle.naga_module.specs.ModuleJudgement.{Answer, AnswersStep, IsOfFunction, globals_step, BehindFunctions, BehindTests, EntriesAnswer, FunctionsAnswer, IsJudgement, IsJudgementOrMemory, first_infos}
 use Rattle.check_faults.specs.declared.module.ModuleFault.{ModuleFault}
 use Rattle.check_faults.specs.declared.module.ModuleFault.TheVariants as fault
 
@@ -27,7 +27,7 @@ module _ (below : Meaning) (settings : Settings) (types : List TypeInfo) (m : Mo
   entries_decide : (r : Answer) → BehindFunctions below settings types m left more r → Parts r
   unfolding FunctionsAnswer
   entries_decide r a =
-      subst (λ o. Step o (IsOfFunction (λ e. e)) (λ done. FunctionsAnswer below settings types m trace infos m.functions) r) (sym passed) (leads r a)
+      subst (λ o. AnswersStep o (IsOfFunction (λ e. e)) (λ done. FunctionsAnswer below settings types m trace infos m.functions) r) (sym passed) (leads r a)
 
   pub sizes_refuse : (HasPayloadSizes below m → ⊥) → Parts (Err fault.NotFit)
   sizes_refuse unknown = entries_decide (Err fault.NotFit) (inr (unknown, refl))

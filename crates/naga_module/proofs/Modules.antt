@@ -22,7 +22,7 @@ use Rattle.check_statement.specs.FunctionJudgement.{FunctionOutcome, function_ju
 use Rattle.check_faults.specs.declared.entry.EntryPointError.{EntryPointError}
 use Rattle.check_scope.specs.declared.trace.TraceState.{TraceState}
 use Rattle.naga_module.specs.CodeModule.{Leads, Stops, EntriesLead, EntriesStop}
-use Rattle.naga_module.specs.ModuleJudgement.{Answer, Step, with_entry, IsOfFunction, IsOfEntryPoint, EntriesAnswer, FunctionsAnswer}
+use Rattle.naga_module.specs.ModuleJudgement.{Answer, AnswersStep, with_entry, IsOfFunction, IsOfEntryPoint, EntriesAnswer, FunctionsAnswer}
 use Rattle.check_faults.specs.declared.module.ModuleFault.{ModuleFault}
 use Rattle.check_faults.specs.declared.module.ModuleFault.TheVariants as fault
 
@@ -41,7 +41,7 @@ module _ (below : Meaning) (settings : Settings) (types : List TypeInfo) (m : Mo
   unfolding FunctionsAnswer
   goes_on fits left e r a =
       here r
-      (inl (fits, subst (λ o. Step o (IsOfFunction (fault.Function (length infos.functions))) (λ (l : FunctionOutcome). FunctionsAnswer below settings types m l.trace (with_info infos l.info) (drop (i + 1) m.functions)) r) (sym e) a))
+      (inl (fits, subst (λ o. AnswersStep o (IsOfFunction (fault.Function (length infos.functions))) (λ (l : FunctionOutcome). FunctionsAnswer below settings types m l.trace (with_info infos l.info) (drop (i + 1) m.functions)) r) (sym e) a))
 
   is_faulty : FitsFunction f m (length infos.functions) → (error : FunctionError) →
       function_judgement below settings types trace m infos f false ≡ Err error →
@@ -49,7 +49,7 @@ module _ (below : Meaning) (settings : Settings) (types : List TypeInfo) (m : Mo
   unfolding FunctionsAnswer
   is_faulty fits error e =
       here (Err (fault.Function (length infos.functions) error))
-      (inl (fits, subst (λ o. Step o (IsOfFunction (fault.Function (length infos.functions))) (λ (l : FunctionOutcome). FunctionsAnswer below settings types m l.trace (with_info infos l.info) (drop (i + 1) m.functions)) (Err (fault.Function (length infos.functions) error))) (sym e) refl))
+      (inl (fits, subst (λ o. AnswersStep o (IsOfFunction (fault.Function (length infos.functions))) (λ (l : FunctionOutcome). FunctionsAnswer below settings types m l.trace (with_info infos l.info) (drop (i + 1) m.functions)) (Err (fault.Function (length infos.functions) error))) (sym e) refl))
 
   is_unfit : (FitsFunction f m (length infos.functions) → ⊥) → FunctionsAnswer below settings types m trace infos (drop i m.functions) (Err fault.NotFit)
   unfolding FunctionsAnswer
@@ -72,14 +72,14 @@ module _ (below : Meaning) (settings : Settings) (types : List TypeInfo) (m : Mo
   unfolding EntriesAnswer
   entry_goes_on fits left e r a =
       entry_here r
-      (inl (fits, subst (λ o. Step o (IsOfEntryPoint (length infos.entry_points)) (λ (l : FunctionOutcome). EntriesAnswer below settings types m l.trace (with_entry infos l.info) (drop (i + 1) m.entry_points)) r) (sym e) a))
+      (inl (fits, subst (λ o. AnswersStep o (IsOfEntryPoint (length infos.entry_points)) (λ (l : FunctionOutcome). EntriesAnswer below settings types m l.trace (with_entry infos l.info) (drop (i + 1) m.entry_points)) r) (sym e) a))
 
   entry_is_faulty : EntryFits → (error : EntryPointError) → entry_judgement below settings types trace m infos p ≡ Err (fault_of error) →
       EntriesAnswer below settings types m trace infos (drop i m.entry_points) (Err (fault.EntryPoint (length infos.entry_points) error))
   unfolding EntriesAnswer
   entry_is_faulty fits error e =
       entry_here (Err (fault.EntryPoint (length infos.entry_points) error))
-      (inl (fits, subst (λ o. Step o (IsOfEntryPoint (length infos.entry_points)) (λ (l : FunctionOutcome). EntriesAnswer below settings types m l.trace (with_entry infos l.info) (drop (i + 1) m.entry_points)) (Err (fault.EntryPoint (length infos.entry_points) error))) (sym e) (refl, refl)))
+      (inl (fits, subst (λ o. AnswersStep o (IsOfEntryPoint (length infos.entry_points)) (λ (l : FunctionOutcome). EntriesAnswer below settings types m l.trace (with_entry infos l.info) (drop (i + 1) m.entry_points)) (Err (fault.EntryPoint (length infos.entry_points) error))) (sym e) (refl, refl)))
 
   entry_is_unfit : (EntryFits → ⊥) → EntriesAnswer below settings types m trace infos (drop i m.entry_points) (Err fault.NotFit)
   unfolding EntriesAnswer

@@ -15,7 +15,7 @@ use Rattle.ir_facts.specs.Meaning.{Meaning}
 use Rattle.check_scope.specs.declared.trace.TraceState.{TraceState}
 use Rattle.check_statement.specs.FunctionJudgement.{FunctionOutcome, function_judgement}
 use Rattle.check_statement.specs.ValidatorParts.{no_traces}
-use Rattle.naga_module.specs.ModuleJudgement.{Answer, Tested, Step, with_entry, first_infos, IsOfFunction, IsOfEntryPoint, EntriesAnswer, FunctionsAnswer, BehindTests, Fits, globals_step}
+use Rattle.naga_module.specs.ModuleJudgement.{Answer, Tested, AnswersStep, with_entry, first_infos, IsOfFunction, IsOfEntryPoint, EntriesAnswer, FunctionsAnswer, BehindTests, Fits, globals_step}
 use Rattle.naga_module.specs.OneJudgement.{IsSameFault, IsSameAnswer, ModuleHasOneJudgement}
 use Rattle.check_faults.specs.declared.module.ModuleFault.{ModuleFault}
 use Rattle.check_faults.specs.declared.module.ModuleFault.TheVariants as fault
@@ -45,7 +45,7 @@ one_tested Holds Next r s next (inr a) (inr b) = both_are (Err fault.NotFit) r s
 
 one_step : {A E : Type 0} (o : Result A E) (Makes : E → ModuleFault → Type 0) (Next : A → Answer → Type 0) (r s : Answer) →
     ((e : E) (a b : ModuleFault) → Makes e a → Makes e b → IsSameFault a b) → ((x : A) → Next x r → Next x s → IsSameAnswer r s) →
-    Step o Makes Next r → Step o Makes Next s → IsSameAnswer r s
+    AnswersStep o Makes Next r → AnswersStep o Makes Next s → IsSameAnswer r s
 one_step (Ok x) Makes Next r s faults next a b = next x a b
 one_step (Err e) Makes Next (Ok infos) s faults next a b = absurd a
 one_step (Err e) Makes Next (Err told) (Ok infos) faults next a b = absurd b
@@ -73,7 +73,7 @@ module _ (below : Meaning) (settings : Settings) (types : List TypeInfo) (m : Mo
   one_of_entries trace infos [] a b = both_are (Ok infos) r s refl a b
   one_of_entries trace infos (p ∷ ps) a b =
       one_tested (FitsFunction p.function m (length infos.functions) × FitsEntry p m)
-      (Step (entry_judgement below settings types trace m infos p) (IsOfEntryPoint (length infos.entry_points)) (λ (l : FunctionOutcome). EntriesAnswer below settings types m l.trace (with_entry infos l.info) ps)) r s
+      (AnswersStep (entry_judgement below settings types trace m infos p) (IsOfEntryPoint (length infos.entry_points)) (λ (l : FunctionOutcome). EntriesAnswer below settings types m l.trace (with_entry infos l.info) ps)) r s
       (one_step (entry_judgement below settings types trace m infos p) (IsOfEntryPoint (length infos.entry_points)) (λ (l : FunctionOutcome). EntriesAnswer below settings types m l.trace (with_entry infos l.info) ps) r s
       (of_entries (length infos.entry_points)) (λ l x y. one_of_entries l.trace (with_entry infos l.info) ps x y)) a b
 
@@ -85,7 +85,7 @@ module _ (below : Meaning) (settings : Settings) (types : List TypeInfo) (m : Mo
       (one_of_entries trace infos m.entry_points) a b
   one_of_functions trace infos (f ∷ fs) a b =
       one_tested (FitsFunction f m (length infos.functions))
-      (Step (function_judgement below settings types trace m infos f false) (IsOfFunction (fault.Function (length infos.functions))) (λ (l : FunctionOutcome). FunctionsAnswer below settings types m l.trace (with_info infos l.info) fs)) r s
+      (AnswersStep (function_judgement below settings types trace m infos f false) (IsOfFunction (fault.Function (length infos.functions))) (λ (l : FunctionOutcome). FunctionsAnswer below settings types m l.trace (with_info infos l.info) fs)) r s
       (one_step (function_judgement below settings types trace m infos f false) (IsOfFunction (fault.Function (length infos.functions))) (λ (l : FunctionOutcome). FunctionsAnswer below settings types m l.trace (with_info infos l.info) fs) r s
       (of_functions (fault.Function (length infos.functions))) (λ l x y. one_of_functions l.trace (with_info infos l.info) fs x y)) a b
 

@@ -20,14 +20,14 @@ use Rattle.check_statement.specs.FunctionJudgement.{FunctionOutcome, function_ju
 use Rattle.check_statement.specs.ValidatorParts.{no_traces}
 use Rattle.check_entry.specs.InterfacePoints.{HasPayloadSizes}
 use Rattle.check_scope.specs.declared.trace.TraceState.{TraceState}
-use Rattle.naga_module.specs.ModuleJudgement.{Answer, Step, IsOfFunction, first_infos, globals_step, points_of_global, EntriesAnswer, FunctionsAnswer}
+use Rattle.naga_module.specs.ModuleJudgement.{Answer, AnswersStep, IsOfFunction, first_infos, globals_step, points_of_global, EntriesAnswer, FunctionsAnswer}
 use Rattle.naga_module.specs.ModuleLaw.{IsToldOfFunctions, FunctionsAloneAreTold}
 use Rattle.check_faults.specs.declared.module.ModuleFault.{ModuleFault}
 use Rattle.check_faults.specs.declared.module.ModuleFault.TheVariants as fault
 
 -- a step tells the fault of a function, or what the next one tells
 step_tells : {A : Type 0} (o : Result A FunctionError) (handle : ℕ) (Next : A → Answer → Type 0) (told : ModuleFault) →
-    ((x : A) → Next x (Err told) → IsToldOfFunctions told) → Step o (IsOfFunction (fault.Function handle)) Next (Err told) → IsToldOfFunctions told
+    ((x : A) → Next x (Err told) → IsToldOfFunctions told) → AnswersStep o (IsOfFunction (fault.Function handle)) Next (Err told) → IsToldOfFunctions told
 step_tells (Ok x) handle Next told next a = next x a
 step_tells (Err e) handle Next told next a = subst IsToldOfFunctions (sym a) tt
 
@@ -77,5 +77,5 @@ functions_alone_are_told below settings types global_types m told fits globals e
 functions_alone_are_told below settings types global_types m told fits globals entries functions (inr (inl judged)) =
     functions_tell below settings types m told entries (no_payloads below m globals) no_traces (first_infos global_types) m.functions
     (λ i f is. let same : i ≡ 0 + i = omega arith in subst (λ n. FitsFunction f m n) same (functions i f is))
-    (subst (λ o. Step o (IsOfFunction (λ e. e)) (λ done. FunctionsAnswer below settings types m no_traces (first_infos global_types) m.functions) (Err told))
+    (subst (λ o. AnswersStep o (IsOfFunction (λ e. e)) (λ done. FunctionsAnswer below settings types m no_traces (first_infos global_types) m.functions) (Err told))
     (no_globals below settings types m (first_infos global_types) globals) judged.1)

@@ -31,3 +31,4 @@ pub use Rattle.check_faults.specs.declared.module.ModuleFault.{ModuleFault}
 pub use Rattle.check_faults.specs.declared.module.ModuleFault.TheVariants as module_fault
 pub use Rattle.naga_runs.specs.Soundness.{RunsAreSure}
 pub use Rattle.ir_misfits.specs.ShortFacts.{shortages}
+pub use Rattle.ir_fits.specs.Laws.{TypesAreExact, GlobalsAreExact, FunctionsAreExact, EntriesAreExact}

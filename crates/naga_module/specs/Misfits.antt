@@ -1,7 +1,7 @@
 -- The misfits of a module and of what is given beside it, in the order in which `check_module` tests; and what it is to fit.
 use Rattle.std.specs.Prelude.{ℕ, Bool, true, false, not, ◌||◌, ◌==◌, is_some, List, [], ◌∷◌, ◌++◌, Result, Ok, Err, All, length}
 use Rattle.ir_types.specs.declared.types.AddressSpace.{AddressSpace}
-use Rattle.ir_types.specs.declared.types.AddressSpace.TheVariants.{TaskPayload}
+use Rattle.ir_types.specs.declared.types.AddressSpace.TheVariants as space
 use Rattle.ir_types.specs.declared.typifier.TypeResolution.{TypeResolution}
 use Rattle.ir_module.specs.declared.functions.Function.{Function}
 use Rattle.ir_module.specs.declared.module.EntryPoint.{EntryPoint}
@@ -19,7 +19,7 @@ use Rattle.ir_misfits.specs.declared.misfit.Place.{Place}
 use Rattle.ir_misfits.specs.declared.misfit.Place.TheVariants as place
 use Rattle.ir_misfits.specs.declared.misfit.Problem.TheVariants.{Length, UnknownSize}
 use Rattle.ir_misfits.specs.declared.misfit.VariableField.TheVariants.{Ty}
-use Rattle.ir_misfits.specs.Points.{Points, named}
+use Rattle.ir_misfits.specs.MisfitPoints.{MisfitPoints, named}
 use Rattle.ir_fits.specs.OfTypes.{types_points}
 use Rattle.ir_fits.specs.OfGlobals.{globals_points}
 use Rattle.ir_fits.specs.OfFunctions.{function_points}
@@ -30,11 +30,11 @@ use Rattle.check_entry.specs.GivenInfos.{AreInfosOf}
 use Rattle.naga_module.specs.ModuleJudgement.{first_infos}
 
 -- of n types: that which makes a layout bad is there
-abbrev pub layout_points : Place → ℕ → Result ℕ (ℕ × Disalignment) → Points
+abbrev pub layout_points : Place → ℕ → Result ℕ (ℕ × Disalignment) → MisfitPoints
 layout_points place n (Ok alignment) = []
 layout_points place n (Err bad) = named place Types n bad.0 ∷ []
 
-abbrev pub info_points : ℕ → ℕ → TypeInfo → Points
+abbrev pub info_points : ℕ → ℕ → TypeInfo → MisfitPoints
 info_points n k info =
     layout_points (place.StorageLayout k) n info.storage_layout
     ++ layout_points (place.UniformLayout k) n info.uniform_layout
@@ -46,24 +46,32 @@ one_info_each m infos = (
   record { place = place.TypeInfos; problem = Length (length infos) (length m.types) },
 )
 
-abbrev pub infos_points : Module → List TypeInfo → Points
+abbrev pub infos_points : Module → List TypeInfo → MisfitPoints
 infos_points m infos = one_info_each m infos ∷ points_of_each (info_points (length m.types)) infos
 
 -- function k, with the functions before it
-abbrev pub module_function_points : Module → ℕ → Function → Points
+abbrev pub module_function_points : Module → ℕ → Function → MisfitPoints
 module_function_points m k f = function_points (owner.Function k) f m k
 
 -- entry point k: its function, behind all functions, and what else it names
-abbrev pub entry_point_points : Module → ℕ → EntryPoint → Points
+abbrev pub entry_point_points : Module → ℕ → EntryPoint → MisfitPoints
 entry_point_points m k p =
     function_points (owner.EntryPoint k) p.function m (length m.functions) ++ entry_points k p m
 
 abbrev pub is_task_payload : AddressSpace → Bool
-is_task_payload TaskPayload = true
-is_task_payload _ = false
+is_task_payload space.Function = false
+is_task_payload space.Private = false
+is_task_payload space.WorkGroup = false
+is_task_payload space.Uniform = false
+is_task_payload (space.Storage access) = false
+is_task_payload space.Handle = false
+is_task_payload space.Immediate = false
+is_task_payload space.TaskPayload = true
+is_task_payload space.RayPayload = false
+is_task_payload space.IncomingRayPayload = false
 
 -- the size of the type of a global in TaskPayload is known
-abbrev pub size_points : Meaning → Module → ℕ → GlobalVariable → Points
+abbrev pub size_points : Meaning → Module → ℕ → GlobalVariable → MisfitPoints
 size_points below m k g = (
   not (is_task_payload g.space) || is_some (below.size_of m g.ty),
   record {
@@ -76,7 +84,7 @@ size_points below m k g = (
 -- over a lower layer that means this, where these are the infos of types, and those the types of global expressions
 module _ (below : Meaning) (types : List TypeInfo) (m : Module) (global_types : List TypeResolution) where
   -- the infos of types; the types; the globals; the functions in order; the sizes of payloads; the entry points in order
-  abbrev pub module_points : Points
+  abbrev pub module_points : MisfitPoints
   module_points =
       infos_points m types
       ++ (types_points m

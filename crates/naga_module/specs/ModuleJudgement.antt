@@ -35,10 +35,10 @@ abbrev pub Tested : Type 0 → (Answer → Type 0) → Answer → Type 0
 Tested Holds Next r = (Holds × Next r) ⊎ ((Holds → ⊥) × (r ≡ Err fault.NotFit))
 
 -- a judgement: its fault, as this makes it one of the module; else the next step decides, with what was found
-abbrev pub Step : {A E : Type 0} → Result A E → (E → ModuleFault → Type 0) → (A → Answer → Type 0) → Answer → Type 0
-Step (Ok x) Makes Next r = Next x r
-Step (Err e) Makes Next (Ok infos) = ⊥
-Step (Err e) Makes Next (Err told) = Makes e told
+abbrev pub AnswersStep : {A E : Type 0} → Result A E → (E → ModuleFault → Type 0) → (A → Answer → Type 0) → Answer → Type 0
+AnswersStep (Ok x) Makes Next r = Next x r
+AnswersStep (Err e) Makes Next (Ok infos) = ⊥
+AnswersStep (Err e) Makes Next (Err told) = Makes e told
 
 -- the infos of a module with that of one entry point more
 abbrev pub with_entry : ModuleInfo → FunctionInfo → ModuleInfo
@@ -75,7 +75,7 @@ module _ (below : Meaning) (settings : Settings) (types : List TypeInfo) (m : Mo
   EntriesAnswer trace infos [] r = r ≡ Ok infos
   EntriesAnswer trace infos (p ∷ ps) r =
       Tested (FitsFunction p.function m (length infos.functions) × FitsEntry p m)
-      (Step (entry_judgement below settings types trace m infos p) (IsOfEntryPoint (length infos.entry_points))
+      (AnswersStep (entry_judgement below settings types trace m infos p) (IsOfEntryPoint (length infos.entry_points))
       (λ left. EntriesAnswer left.trace (with_entry infos left.info) ps)) r
 
   -- behind the functions: the sizes of task payloads, then the entry points
@@ -87,14 +87,14 @@ module _ (below : Meaning) (settings : Settings) (types : List TypeInfo) (m : Mo
   FunctionsAnswer trace infos [] r = BehindFunctions trace infos r
   FunctionsAnswer trace infos (f ∷ fs) r =
       Tested (FitsFunction f m (length infos.functions))
-      (Step (function_judgement below settings types trace m infos f false)
+      (AnswersStep (function_judgement below settings types trace m infos f false)
       (IsOfFunction (fault.Function (length infos.functions)))
       (λ left. FunctionsAnswer left.trace (with_info infos left.info) fs)) r
 
   -- behind the tests: the globals, then the functions
   abbrev pub BehindTests : TraceState → ModuleInfo → Answer → Type 0
   BehindTests trace infos r =
-      Step (globals_step infos) (IsOfFunction (λ e. e)) (λ done. FunctionsAnswer trace infos m.functions) r
+      AnswersStep (globals_step infos) (IsOfFunction (λ e. e)) (λ done. FunctionsAnswer trace infos m.functions) r
 
   -- what is asked before anything is judged
   pub record Fits (global_types : List TypeResolution) : Type 0 where

@@ -27,11 +27,11 @@ use ir_errors::interface::GlobalVariableError;
 use ir_facts::below::Below;
 use ir_facts::valid::info::ModuleInfo;
 use ir_facts::valid::settings::Settings;
-use ir_fits::fits::{fits_globals, fits_types};
+use ir_fits::{fits_globals, fits_types};
 use ir_module::module::Module;
 use ir_types::type_info::TypeInfo;
 use ir_types::typifier::TypeResolution;
-use naga_valid::validator::Validator;
+use naga_valid::Validator;
 use std::alloc::{AllocError, Global};
 
 /// What lower layers know of a module's types and of its global expressions.

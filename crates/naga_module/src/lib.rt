@@ -2,7 +2,7 @@
 //! It passes on the lower layers of `naga_layers`.
 #![tactic(auto)]
 
-pub mod check;
+mod check;
 pub mod laws;
 mod misfit;
 pub mod worked;
@@ -14,6 +14,7 @@ pub use check_faults::{
     ModuleFault, Subject, Whereabouts, write_fault, write_module_fault, write_module_fault_lines,
     write_refusal,
 };
+pub use ir_fits::misfits_law;
 pub use ir_misfits::{
     EntryField, HandleOf, Misfit, Owner, Place, Problem, Shortage, StatementField, TypeField,
     TypeOwner, VariableField, find_short_fact,

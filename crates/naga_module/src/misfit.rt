@@ -1,21 +1,18 @@
 //! What doesn't fit in a module: the first misfit.
 
 ghost use Rattle.std.specs.Prelude.{◌≡◌, ◌↔◌, ◌∷◌, [], None, Err, IsSome};
-ghost use Rattle.std.specs.Result.{result_err};
 ghost use Rattle.ir_arena.specs.Points.{first_fault, points_of_each};
 ghost use Rattle.ir_facts.specs.declared.valid.settings.Settings.{Settings};
 ghost use Rattle.check_faults.specs.declared.module.ModuleFault.TheVariants as fault;
-ghost use Rattle.naga_module.specs.Misfits.{layout_points, info_points, one_info_each, infos_points, module_function_points, entry_point_points, size_points, module_points, AllFits};
+ghost use Rattle.naga_module.specs.Misfits.{layout_points, info_points, one_info_each, infos_points, module_function_points, entry_point_points, is_task_payload, size_points, module_points, AllFits};
 ghost use Rattle.naga_module.specs.ModuleJudgement.{IsJudgement};
+ghost use Rattle.ir_facts.specs.Answers.{Finds, FirstOf};
 
 use crate::check::Given;
 use ir_arena::handle::Handle;
 use ir_arena::tag;
 use ir_facts::below::Below;
-use ir_fits::entry::check_entry_fits;
-use ir_fits::function::check_function_fits;
-use ir_fits::globals::check_globals_fit;
-use ir_fits::types::check_types_fit;
+use ir_fits::{check_entry_fits, check_function_fits, check_globals_fit, check_types_fit};
 use ir_misfits::misfit::{HandleOf, Misfit, Owner, Place, Problem, VariableField};
 use ir_module::functions::Function;
 use ir_module::module::{EntryPoint, GlobalVariable, Module};
@@ -55,8 +52,8 @@ fn check_all_fit<B: Below>(
     global_types: &[TypeResolution],
     module: &Module,
 ) -> Result<(), Misfit>
-    ensures { result_err result ≡ first_fault (module_points (B.meaning below.now) types.now «module».now
-        global_types.now) }
+    ensures { Finds (FirstOf (module_points (B.meaning below.now) types.now «module».now
+        global_types.now)) result }
 {
     check_infos_fit(module, types)?;
     check_types_fit(module)?;
@@ -72,7 +69,7 @@ fn check_layout(
     layout: &Result<u32, (Handle<tag::Type>, Disalignment)>,
     types: usize,
 ) -> Result<(), Misfit>
-    ensures { result_err result ≡ first_fault (layout_points place types layout.now) }
+    ensures { Finds (FirstOf (layout_points place types layout.now)) result }
 {
     match layout {
         Ok(_) => Ok(()),
@@ -82,14 +79,14 @@ fn check_layout(
 
 #[tactic(auto, using(ir_arena::proofs::Points::first_of_both))]
 fn check_info(place: usize, info: &TypeInfo, types: usize) -> Result<(), Misfit>
-    ensures { result_err result ≡ first_fault (info_points types place info.now) }
+    ensures { Finds (FirstOf (info_points types place info.now)) result }
 {
     check_layout(Place::StorageLayout(place), &info.storage_layout, types)?;
     check_layout(Place::UniformLayout(place), &info.uniform_layout, types)
 }
 
 fn check_each_info(infos: &[TypeInfo], types: usize) -> Result<(), Misfit>
-    ensures { result_err result ≡ first_fault (points_of_each (info_points types) infos.now) }
+    ensures { Finds (FirstOf (points_of_each (info_points types) infos.now)) result }
 {
     for (place, info) in infos.iter().enumerate() {
         check_info(place, info, types)?;
@@ -99,7 +96,7 @@ fn check_each_info(infos: &[TypeInfo], types: usize) -> Result<(), Misfit>
 
 /// There is one info for each type.
 fn check_one_info_each(module: &Module, infos: &[TypeInfo]) -> Result<(), Misfit>
-    ensures { result_err result ≡ first_fault (one_info_each «module».now infos.now ∷ []) }
+    ensures { Finds (FirstOf (one_info_each «module».now infos.now ∷ [])) result }
 {
     let found = infos.len();
     let wanted = module.types.len();
@@ -111,7 +108,7 @@ fn check_one_info_each(module: &Module, infos: &[TypeInfo]) -> Result<(), Misfit
 
 #[tactic(auto, using(ir_arena::proofs::Points::first_of_both))]
 fn check_infos_fit(module: &Module, infos: &[TypeInfo]) -> Result<(), Misfit>
-    ensures { result_err result ≡ first_fault (infos_points «module».now infos.now) }
+    ensures { Finds (FirstOf (infos_points «module».now infos.now)) result }
 {
     check_one_info_each(module, infos)?;
     check_each_info(infos, module.types.len())
@@ -119,12 +116,30 @@ fn check_infos_fit(module: &Module, infos: &[TypeInfo]) -> Result<(), Misfit>
 
 /// Each function, with the functions before it.
 fn check_functions_fit(functions: &[Function], module: &Module) -> Result<(), Misfit>
-    ensures { result_err result ≡ first_fault (points_of_each (module_function_points «module».now) functions.now) }
+    ensures { Finds (FirstOf (points_of_each (module_function_points «module».now) functions.now)) result }
 {
     for (place, fun) in functions.iter().enumerate() {
         check_function_fits(Owner::Function(place), fun, module, place)?;
     }
     Ok(())
+}
+
+/// Whether a space is that of task payloads.
+fn is_task_payload(space: AddressSpace) -> bool
+    ensures { result ≡ is_task_payload space }
+{
+    match space {
+        AddressSpace::TaskPayload => true,
+        AddressSpace::Function
+        | AddressSpace::Private
+        | AddressSpace::WorkGroup
+        | AddressSpace::Uniform
+        | AddressSpace::Storage { .. }
+        | AddressSpace::Handle
+        | AddressSpace::Immediate
+        | AddressSpace::RayPayload
+        | AddressSpace::IncomingRayPayload => false,
+    }
 }
 
 fn check_size<B: Below>(
@@ -133,11 +148,9 @@ fn check_size<B: Below>(
     global: &GlobalVariable,
     module: &Module,
 ) -> Result<(), Misfit>
-    ensures { result_err result ≡ first_fault (size_points (B.meaning below.now) «module».now place global.now) }
+    ensures { Finds (FirstOf (size_points (B.meaning below.now) «module».now place global.now)) result }
 {
-    if !matches!(global.space, AddressSpace::TaskPayload)
-        || below.type_size(module, global.ty).is_some()
-    {
+    if !is_task_payload(global.space) || below.type_size(module, global.ty).is_some() {
         return Ok(());
     }
     let ty = global.ty.index();
@@ -150,8 +163,7 @@ fn check_sizes<B: Below>(
     globals: &[GlobalVariable],
     module: &Module,
 ) -> Result<(), Misfit>
-    ensures { result_err result
-        ≡ first_fault (points_of_each (size_points (B.meaning below.now) «module».now) globals.now) }
+    ensures { Finds (FirstOf (points_of_each (size_points (B.meaning below.now) «module».now) globals.now)) result }
 {
     for (place, global) in globals.iter().enumerate() {
         check_size(below, place, global, module)?;
@@ -161,7 +173,7 @@ fn check_sizes<B: Below>(
 
 #[tactic(auto, using(ir_arena::proofs::Points::first_of_both))]
 fn check_entry_point_fits(place: usize, ep: &EntryPoint, module: &Module) -> Result<(), Misfit>
-    ensures { result_err result ≡ first_fault (entry_point_points «module».now place ep.now) }
+    ensures { Finds (FirstOf (entry_point_points «module».now place ep.now)) result }
 {
     let earlier = module.functions.len();
     check_function_fits(Owner::EntryPoint(place), &ep.function, module, earlier)?;
@@ -170,7 +182,7 @@ fn check_entry_point_fits(place: usize, ep: &EntryPoint, module: &Module) -> Res
 
 /// Each entry point, with all functions.
 fn check_entry_points_fit(entries: &[EntryPoint], module: &Module) -> Result<(), Misfit>
-    ensures { result_err result ≡ first_fault (points_of_each (entry_point_points «module».now) entries.now) }
+    ensures { Finds (FirstOf (points_of_each (entry_point_points «module».now) entries.now)) result }
 {
     for (place, ep) in entries.iter().enumerate() {
         check_entry_point_fits(place, ep, module)?;

@@ -2,7 +2,7 @@
 use Rattle.std.specs.List.{list_any}
 use Rattle.std.specs.Option.{option_or}
 use Rattle.std.specs.Prelude.{Bool, true, false, not, Option, Some, None, ◌≡◌, ◌∷◌, if◌then◌else◌, []}
-use Rattle.ir_statements.specs.Tree.{Stmt, Break, Continue, Return}
+use Rattle.ir_statements.specs.Tree.{Stmt, Break, Continue, Return, Leaf, Block, Branch, Switch, Loop, Kill}
 use Rattle.naga_runs.specs.Positions.{Part, Step, Position, Node, Case, LoopBody, Continuing, In, StatementNode}
 
 -- Return is allowed where no step is a continuing part.
@@ -78,7 +78,12 @@ abbrev pub jump_of : Stmt → Jump
 jump_of Break = ToBreak
 jump_of Continue = ToContinue
 jump_of (Return v) = ToReturn
-jump_of _ = NoJump
+jump_of (Leaf acts statement span) = NoJump
+jump_of (Block b) = NoJump
+jump_of (Branch h a r) = NoJump
+jump_of (Switch h cases) = NoJump
+jump_of (Loop b c q) = NoJump
+jump_of Kill = NoJump
 
 abbrev pub node_jump : Node → Jump
 node_jump (StatementNode x) = jump_of x

@@ -69,7 +69,11 @@ abbrev mutual
   part_visits c (Switch h cs) = case_visits (in_case c) cs
   part_visits c (Loop b d q) =
       body_visits (in_loop c) b ++ (body_visits (in_continuing b c) d ++ break_if_visits (at_break_if b d c) q)
-  part_visits c _ = []
+  part_visits c (Leaf acts statement span) = []
+  part_visits c Break = []
+  part_visits c Continue = []
+  part_visits c (Return v) = []
+  part_visits c Kill = []
 
   pub case_visits : Place → Cases → List Visit
   case_visits c NoCase = []

@@ -1,7 +1,7 @@
 -- Dead code over the tree: whether each position of a body may be come to, computed without a run.
 use Rattle.std.specs.List.{list_any}
 use Rattle.std.specs.Prelude.{ℕ, zero, suc, Bool, true, false, not, Option, Some, is_some, ◌∷◌, ◌||◌, ◌&&◌, []}
-use Rattle.ir_statements.specs.Tree.{Stmt, Body, Cases, Leaf, Block, Branch, Switch, Loop, Break, Continue, Kill, Done, Then, NoCase, OneCase}
+use Rattle.ir_statements.specs.Tree.{Stmt, Body, Cases, Leaf, Block, Branch, Switch, Loop, Break, Continue, Kill, Done, Then, NoCase, OneCase, Return}
 use Rattle.naga_runs.specs.Positions.{Position, statement_at, list_below, Continuing, Condition, In}
 use Rattle.naga_runs.specs.VisitOrder.{positions}
 
@@ -20,20 +20,31 @@ abbrev mutual
   goes_on (Loop b c q) =
       list_breaks b || ((list_goes_on b || list_continues b) && (list_goes_on c && is_some q))
   goes_on Kill = true
-  goes_on _ = false
+  goes_on Break = false
+  goes_on Continue = false
+  goes_on (Return v) = false
 
   pub breaks : Stmt → Bool
   breaks (Block b) = list_breaks b
   breaks (Branch h a r) = list_breaks a || list_breaks r
   breaks Break = true
-  breaks _ = false
+  breaks (Leaf acts statement span) = false
+  breaks (Switch h cases) = false
+  breaks (Loop b c q) = false
+  breaks Continue = false
+  breaks (Return v) = false
+  breaks Kill = false
 
   pub continues : Stmt → Bool
   continues (Block b) = list_continues b
   continues (Branch h a r) = list_continues a || list_continues r
   continues (Switch h cs) = cases_continue cs
   continues Continue = true
-  continues _ = false
+  continues (Leaf acts statement span) = false
+  continues (Loop b c q) = false
+  continues Break = false
+  continues (Return v) = false
+  continues Kill = false
 
   pub list_goes_on : Body → Bool
   list_goes_on Done = true

@@ -1,7 +1,7 @@
 -- Must: handles of the scope that every run has put where it comes to a position, and that may be used there. It goes by
 -- the tree alone, so a Continue that no run reaches takes handles away all the same.
 use Rattle.std.specs.Prelude.{Bool, true, false, ◌||◌, if◌then◌else◌}
-use Rattle.ir_statements.specs.Tree.{Stmt, Body, Cases, Block, Branch, Switch, Continue, Done, Then, NoCase, OneCase}
+use Rattle.ir_statements.specs.Tree.{Stmt, Body, Cases, Block, Branch, Switch, Continue, Done, Then, NoCase, OneCase, Leaf, Loop, Break, Return, Kill}
 use Rattle.naga_runs.specs.Handles.{Handles}
 use Rattle.naga_runs.specs.Positions.{Position}
 use Rattle.naga_runs.specs.PutsAndUses.{acts_of, with_acts}
@@ -15,7 +15,11 @@ abbrev mutual
   holds_continue (Branch h a r) = body_holds_continue a || body_holds_continue r
   holds_continue (Switch h cs) = cases_hold_continue cs
   holds_continue Continue = true
-  holds_continue _ = false
+  holds_continue (Leaf acts statement span) = false
+  holds_continue (Loop b c q) = false
+  holds_continue Break = false
+  holds_continue (Return v) = false
+  holds_continue Kill = false
 
   pub body_holds_continue : Body → Bool
   body_holds_continue Done = false

@@ -1,6 +1,6 @@
 -- Puts and uses: what a statement does with handles itself, without what its parts do.
 use Rattle.std.specs.Prelude.{ℕ, List, ◌∷◌, ◌++◌, []}
-use Rattle.ir_statements.specs.Tree.{Act, Stmt, Body, Use, Put, Leaf, Branch, Switch, Return, Done, Then}
+use Rattle.ir_statements.specs.Tree.{Act, Stmt, Body, Use, Put, Leaf, Branch, Switch, Return, Done, Then, Block, Loop, Break, Continue, Kill}
 use Rattle.ir_statements.specs.View.{used_if}
 use Rattle.naga_runs.specs.Handles.{Handles, with_handle}
 use Rattle.naga_runs.specs.Positions.{Node, NoNode, StatementNode, BreakIfNode}
@@ -13,7 +13,11 @@ acts_of (Leaf acts x span) = acts
 acts_of (Branch h a r) = Use h ∷ []
 acts_of (Switch h cs) = Use h ∷ []
 acts_of (Return v) = used_if v
-acts_of _ = []
+acts_of (Block b) = []
+acts_of (Loop b c q) = []
+acts_of Break = []
+acts_of Continue = []
+acts_of Kill = []
 
 -- A break condition uses its one handle.
 abbrev pub node_acts : Node → List Act

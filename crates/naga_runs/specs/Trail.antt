@@ -1,7 +1,7 @@
 -- The trail of a run: what it comes to, in order. A run comes to a statement where it begins it, to a break condition
 -- where it reads it. The machine alone says how a statement ends and what is live then; the trail only follows it.
 use Rattle.std.specs.Prelude.{ℕ, zero, suc, Bool, true, false, List, Option, Some, None, ◌∷◌, ◌++◌, []}
-use Rattle.ir_statements.specs.Tree.{Stmt, Body, Cases, Block, Branch, Switch, Loop, Done, Then, NoCase, OneCase}
+use Rattle.ir_statements.specs.Tree.{Stmt, Body, Cases, Block, Branch, Switch, Loop, Done, Then, NoCase, OneCase, Leaf, Break, Continue, Return, Kill}
 use Rattle.naga_runs.specs.Handles.{Handles}
 use Rattle.naga_runs.specs.Machine.{Run, run_stmt, run_body, Next, Continued, Ran}
 use Rattle.naga_runs.specs.Positions.{Part, Position, Node, Root, Inner, Accept, Reject, Case, LoopBody, Continuing, Condition, In, StatementNode, BreakIfNode}
@@ -72,7 +72,11 @@ abbrev mutual
       (λ rest. trail_body b n LoopBody 0 p cuts live rest)
       (λ cut l rest. run_body c n Continuing 0 p (cuts ++ cut ∷ []) l rest)
       (λ cut l rest. trail_body c n Continuing 0 p (cuts ++ cut ∷ []) l rest) q p cuts cs
-  trail_stmt _ n p cuts live cs = []
+  trail_stmt (Leaf acts statement span) n p cuts live cs = []
+  trail_stmt Break n p cuts live cs = []
+  trail_stmt Continue n p cuts live cs = []
+  trail_stmt (Return v) n p cuts live cs = []
+  trail_stmt Kill n p cuts live cs = []
 
   pub trail_body : Body → ℕ → Part → ℕ → Position → List (Option ℕ) → Handles → List ℕ → List Arrival
   trail_body Done n part i p cuts live cs = []

@@ -2,7 +2,7 @@
 -- Loop; of two siblings the one with the lower index first, with all that lies in it.
 use Rattle.std.specs.List.{AllByRecursion}
 use Rattle.std.specs.Prelude.{⊤, ℕ, suc, List, Option, Some, None, map, Contains, ◌≡◌, ◌≢◌, ◌↔◌, ◌∷◌, ◌++◌, [], ◌<◌}
-use Rattle.ir_statements.specs.Tree.{Stmt, Body, Cases, Block, Branch, Switch, Loop, Done, Then, NoCase, OneCase}
+use Rattle.ir_statements.specs.Tree.{Stmt, Body, Cases, Block, Branch, Switch, Loop, Done, Then, NoCase, OneCase, Leaf, Break, Continue, Return, Kill}
 use Rattle.naga_runs.specs.Positions.{Part, Step, Position, node_at, Root, Inner, Accept, Reject, Case, LoopBody, Continuing, Condition, In, NoNode}
 
 abbrev pub condition_positions : Option ℕ → List Position
@@ -23,7 +23,11 @@ abbrev mutual
   positions_below (Switch h cs) = positions_of_cases 0 cs
   positions_below (Loop b c q) =
       positions_from LoopBody 0 b ++ (positions_from Continuing 0 c ++ condition_positions q)
-  positions_below _ = []
+  positions_below (Leaf acts statement span) = []
+  positions_below Break = []
+  positions_below Continue = []
+  positions_below (Return v) = []
+  positions_below Kill = []
 
   pub positions_of_cases : ℕ → Cases → List Position
   positions_of_cases k NoCase = []

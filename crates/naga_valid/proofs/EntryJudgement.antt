@@ -14,7 +14,7 @@ use Rattle.ir_types.specs.declared.type_info.TypeInfo.{TypeInfo}
 use Rattle.ir_facts.specs.Meaning.{Meaning}
 use Rattle.ir_errors.specs.declared.function.FunctionError.{FunctionError}
 use Rattle.check_entry.specs.EntryFaults.{EntryFault, fault_of}
-use Rattle.check_laws.specs.EntryJudgement.{entry_judgement, of_function, interface_step, AnswersAfter}
+use Rattle.check_laws.specs.EntryJudgement.{entry_judgement, of_function, interface_step}
 use Rattle.check_entry.specs.Start.{start_points}
 use Rattle.check_statement.specs.FunctionJudgement.{FunctionOutcome, function_judgement}
 use Rattle.check_faults.specs.declared.entry.EntryPointError.{EntryPointError}
@@ -59,16 +59,16 @@ module _ (below : Meaning) (settings : Settings) (infos : List TypeInfo) (trace 
     started = by_start ∙ ap (λ o. and_then (answer (option_map fault_of o) ep) behind) none
 
     -- a refusal of the function
-    pub function_refuses : (x : Refusal EntryPointError) → Answers (Exactly (of_function function)) (Err (refusal_read_by fault_of x)) → AnswersAfter (start_points settings.capabilities ep) judgement (Err (refusal_read_by fault_of x))
+    pub function_refuses : (x : Refusal EntryPointError) → Answers (Exactly (of_function function)) (Err (refusal_read_by fault_of x)) → Answers (Exactly judgement) (Err (refusal_read_by fault_of x))
     function_refuses (refusal.Fault f) h =
         started ∙ ap (λ o. and_then o (λ outcome. interface_step below settings infos program ep outcome)) h
-    function_refuses refusal.Memory h = none
+    function_refuses refusal.Memory h = tt
 
     -- what the steps behind the function answer
     pub interface_decides : (outcome : FunctionOutcome) (r : Result FunctionOutcome (Refusal EntryPointError)) → of_function function ≡ Ok outcome →
-        Answers (Exactly (interface_step below settings infos program ep outcome)) (read_by fault_of r) → AnswersAfter (start_points settings.capabilities ep) judgement (read_by fault_of r)
+        Answers (Exactly (interface_step below settings infos program ep outcome)) (read_by fault_of r) → Answers (Exactly judgement) (read_by fault_of r)
     interface_decides outcome (Ok y) is h =
         started ∙ ap (λ o. and_then o (λ outcome. interface_step below settings infos program ep outcome)) is ∙ h
     interface_decides outcome (Err (refusal.Fault f)) is h =
         started ∙ ap (λ o. and_then o (λ outcome. interface_step below settings infos program ep outcome)) is ∙ h
-    interface_decides outcome (Err refusal.Memory) is h = none
+    interface_decides outcome (Err refusal.Memory) is h = tt

@@ -1,5 +1,6 @@
+pub use Rattle.ir_arena.specs.Points.{Point, first_fault}
 pub use Rattle.ir_facts.specs.Fits.{FitsTypes, FitsGlobals, FitsFunction, FitsEntry}
-pub use Rattle.ir_facts.specs.Answers.{Right, FirstOf, Exactly, Answers, read_by}
+pub use Rattle.ir_facts.specs.Answers.{Right, FirstOf, Exactly, Finds, Answers, read_by}
 pub use Rattle.ir_facts.specs.WhatIsChecked.{checks_bindings}
 pub use Rattle.ir_facts.specs.Meaning.{Meaning}
 pub use Rattle.naga_runs.specs.Soundness.{RunsAreSure}
@@ -21,7 +22,6 @@ pub use Rattle.check_entry.specs.GlobalPoints.{module_global_points}
 pub use Rattle.check_entry.specs.Start.{start_points}
 pub use Rattle.check_entry.specs.EntryUses.{only}
 pub use Rattle.check_entry.specs.InterfacePoints.{HasPayloadSizes}
-pub use Rattle.check_laws.specs.EntryJudgement.{AnswersAfter}
 unfoldable pub use Rattle.check_laws.specs.EntryJudgement.{entry_judgement}
 pub use Rattle.check_entry.specs.EntryFaults.{fault_of}
 pub use Rattle.check_laws.specs.Chains.{NoneIsVetted, OneMoreIsVetted, CallsOfFittingAreBelow}

@@ -1,7 +1,7 @@
 //! For users: `Validator`, which checks whole functions, global variables and entry points.
 #![tactic(auto)]
 
-pub mod validator;
+mod validator;
 
 pub use crate::validator::Validator;
 pub use check_faults::EntryPointError;

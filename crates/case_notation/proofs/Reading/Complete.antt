@@ -13,29 +13,29 @@ use Rattle.case_notation.specs.declared.token.Token.{Token}
 use Rattle.case_notation.specs.declared.token.Token.TheVariants as token
 use Rattle.case_notation.specs.declared.reader.parts.Tail.{Tail}
 use Rattle.case_notation.specs.declared.reader.parts.Tail.TheVariants as tail
-use Rattle.case_notation.specs.CaseParts.{Part}
+use Rattle.case_notation.specs.CaseParts.{OpenedPart}
 use Rattle.case_notation.specs.CaseParts as part
 use Rattle.case_notation.specs.declared.reader.parts.Wants.{Wants}
 use Rattle.case_notation.specs.declared.reader.parts.Wants.TheVariants as wants
 use Rattle.case_notation.specs.Feeding.{feeds}
 use Rattle.case_notation.specs.Grammar.{Spells, SpellsStatement, SpellsCases, depth, statement_depth, cases_depth, emission, calling, storing, waiting, emitting, call_of, store_of, control_barrier, arrow_if_any, SpellsEmit, in_braces, fall_if, break_if_any}
 use Rattle.case_notation.specs.CaseBlocks.{block_from, block_of, placed, list_of, located_of, cases_of}
-use Rattle.case_notation.specs.Reading.{State, begun, ready, wanting, enter, add_case, close_block, close_accept, close_if, close_case, close_turn, close, close_switch, end_loop, begin, put_alone, begin_at, settle, go_on, take_name, put_named, open_brace, next, step, whole, end_at, finish, reading_of}
+use Rattle.case_notation.specs.Reading.{ReadingState, begun, ready, wanting, enter, add_case, close_block, close_accept, close_if, close_case, close_turn, close, close_switch, end_loop, begin, put_alone, begin_at, settle, go_on, take_name, put_named, open_brace, next, step, whole, end_at, finish, reading_of}
 
-abbrev feed : Option State → List Token → Option State
+abbrev feed : Option ReadingState → List Token → Option ReadingState
 feed = feeds step
 
-feed-append : (o : Option State) (xs ys : List Token) → feed o (xs ++ ys) ≡ feed (feed o xs) ys
+feed-append : (o : Option ReadingState) (xs ys : List Token) → feed o (xs ++ ys) ≡ feed (feed o xs) ys
 unfolding feeds
 feed-append o [] ys = refl
 feed-append o (x ∷ xs) ys = feed-append (option_and_then (λ s. step s x) o) xs ys
 
 -- a state where a statement may begin, once the newest one has no more tail
-abbrev Holds : List Part → List Located → Wants → List Part → List Located → Type 0
+abbrev Holds : List OpenedPart → List Located → Wants → List OpenedPart → List Located → Type 0
 Holds o l (wants.Statement t) opened list = settle o l t ≡ ready opened list
 Holds o l w opened list = ⊥
 
-abbrev Gets : Option State → List Part → List Located → Type 0
+abbrev Gets : Option ReadingState → List OpenedPart → List Located → Type 0
 Gets None opened list = ⊥
 Gets (Some s) opened list = Holds s.opened s.list s.wants opened list
 
@@ -47,7 +47,7 @@ IsKey token.Arrow = ⊥
 IsKey (token.Name h) = ⊥
 IsKey t = Unit {0}
 
-go_on_key : (o : List Part) (l : List Located) (t : Tail) (w : Token) → IsKey w → go_on o l t w ≡ option_and_then (begin_at w) (settle o l t)
+go_on_key : (o : List OpenedPart) (l : List Located) (t : Tail) (w : Token) → IsKey w → go_on o l t w ≡ option_and_then (begin_at w) (settle o l t)
 unfolding go_on
 go_on_key o l tail.Nothing w k = refl
 go_on_key o l (tail.Emit a) token.To k = absurd k
@@ -59,34 +59,34 @@ go_on_key o l tail.Loop w k = refl
 go_on_key o l tail.Call token.Arrow k = absurd k
 go_on_key o l tail.Call w k = refl
 
-key_at : (o : List Part) (l : List Located) (w : Wants) (opened : List Part) (list : List Located) → Holds o l w opened list → (t : Token) → IsKey t → next o l w t ≡ begin opened list t
+key_at : (o : List OpenedPart) (l : List Located) (w : Wants) (opened : List OpenedPart) (list : List Located) → Holds o l w opened list → (t : Token) → IsKey t → next o l w t ≡ begin opened list t
 unfolding next
 key_at o l (wants.Statement tail) opened list h t k =
     go_on_key o l tail t k ∙ ap (option_and_then (begin_at t)) h
 key_at o l w opened list h t k = absurd h
 
 -- a statement begins, or the list is closed
-key : (o : Option State) (opened : List Part) (list : List Located) → Gets o opened list → (t : Token) → IsKey t → option_and_then (λ s. step s t) o ≡ begin opened list t
+key : (o : Option ReadingState) (opened : List OpenedPart) (list : List Located) → Gets o opened list → (t : Token) → IsKey t → option_and_then (λ s. step s t) o ≡ begin opened list t
 key None opened list h t k = absurd h
 key (Some s) opened list h t k = key_at s.opened s.list s.wants opened list h t k
 
 -- the body ends
-end_here : (o : List Part) (l : List Located) (w : Wants) (list : List Located) → Holds o l w [] list → end_at o l w ≡ Some (block_from list)
+end_here : (o : List OpenedPart) (l : List Located) (w : Wants) (list : List Located) → Holds o l w [] list → end_at o l w ≡ Some (block_from list)
 unfolding end_at
 end_here o l (wants.Statement tail) list h = ap (option_and_then (λ s. whole s.opened s.list)) h
 end_here o l w list h = absurd h
 
-at_end : (o : Option State) (list : List Located) → Gets o [] list → option_and_then finish o ≡ Some (block_from list)
+at_end : (o : Option ReadingState) (list : List Located) → Gets o [] list → option_and_then finish o ≡ Some (block_from list)
 at_end None list h = absurd h
 at_end (Some s) list h = end_here s.opened s.list s.wants list h
 
-enters : (opened : List Part) (part : Part) (w : Wants) → length opened < 256 → enter opened part w ≡ wanting (part ∷ opened) [] w
+enters : (opened : List OpenedPart) (part : OpenedPart) (w : Wants) → length opened < 256 → enter opened part w ≡ wanting (part ∷ opened) [] w
 enters opened part w h = grind (arith, common_steps)
 
-abbrev and_then : Option State → Token → Option State
+abbrev and_then : Option ReadingState → Token → Option ReadingState
 and_then o t = option_and_then (λ s. step s t) o
 
-module _ (o : Option State) (opened : List Part) (list : List Located) (h : Gets o opened list) where
+module _ (o : Option ReadingState) (opened : List OpenedPart) (list : List Located) (h : Gets o opened list) where
   emit_one : (a : ℕ) → Gets (and_then (and_then o token.Emit) (token.Name a)) opened (list ++ placed (emitting a a) ∷ [])
   unfolding begin put_alone next take_name put_named settle
   emit_one a = rw (key o opened list h token.Emit tt) refl
@@ -148,7 +148,7 @@ module _ (o : Option State) (opened : List Part) (list : List Located) (h : Gets
     unfolding begin put_alone next open_brace settle
     loop_in = rw (key o opened list h token.Loop tt, enters opened (part.Turn list) (wants.Statement tail.Nothing) lt) refl
 
-module _ (o : Option State) (opened : List Part) (list body : List Located) where
+module _ (o : Option ReadingState) (opened : List OpenedPart) (list body : List Located) where
   block_out : Gets o (part.Block list ∷ opened) body → Gets (and_then o token.Close) opened (list ++ placed (ir.Block (block_from body)) ∷ [])
   unfolding begin put_alone close close_block close_accept close_if close_case close_turn settle
   block_out h = rw (key o (part.Block list ∷ opened) body h token.Close tt) refl
@@ -177,19 +177,19 @@ module _ (o : Option State) (opened : List Part) (list body : List Located) wher
   unfolding begin put_alone close close_block close_accept close_if close_case close_turn add_case
   case_out v f h cs g = rw (key o (part.Case v f ∷ part.Cases h cs list ∷ opened) body g token.Close tt) refl
 
-abbrev in_switch : List Part → ℕ → List SwitchCase → List Located → Option State
+abbrev in_switch : List OpenedPart → ℕ → List SwitchCase → List Located → Option ReadingState
 in_switch opened h cs outer = wanting (part.Cases h cs outer ∷ opened) [] wants.CaseValue
 
-done_read : (ts : List Token) → ts ≡ [] → (o : Option State) (opened : List Part) (list : List Located) → Gets o opened list → length opened + depth Done ≤ 256 → Gets (feed o ts) opened (list ++ [])
+done_read : (ts : List Token) → ts ≡ [] → (o : Option ReadingState) (opened : List OpenedPart) (list : List Located) → Gets o opened list → length opened + depth Done ≤ 256 → Gets (feed o ts) opened (list ++ [])
 unfolding feeds
 done_read ts e o opened list h d = rw (e, append-nil) h
 
-none_read : (ts : List Token) → ts ≡ [] → (opened : List Part) (h : ℕ) (before : List SwitchCase) (outer : List Located) → length opened + 1 + cases_depth NoCase ≤ 256 → feed (in_switch opened h before outer) ts ≡ in_switch opened h (before ++ []) outer
+none_read : (ts : List Token) → ts ≡ [] → (opened : List OpenedPart) (h : ℕ) (before : List SwitchCase) (outer : List Located) → length opened + 1 + cases_depth NoCase ≤ 256 → feed (in_switch opened h before outer) ts ≡ in_switch opened h (before ++ []) outer
 unfolding feeds
 none_read ts e opened h before outer d = rw (e, append-nil) refl
 
 -- a case begins
-case_in : (opened : List Part) (v : SwitchValue) (f : Bool) (h : ℕ) (cs : List SwitchCase) (outer : List Located) (ts : List Token) → length opened + 1 < 256 → feed (in_switch opened h cs outer) (token.Value v ∷ (fall_if f ++ (token.Open ∷ ts))) ≡ feed (ready (part.Case v f ∷ part.Cases h cs outer ∷ opened) []) ts
+case_in : (opened : List OpenedPart) (v : SwitchValue) (f : Bool) (h : ℕ) (cs : List SwitchCase) (outer : List Located) (ts : List Token) → length opened + 1 < 256 → feed (in_switch opened h cs outer) (token.Value v ∷ (fall_if f ++ (token.Open ∷ ts))) ≡ feed (ready (part.Case v f ∷ part.Cases h cs outer ∷ opened) []) ts
 unfolding feeds next open_brace
 case_in opened v true h cs outer ts lt =
     ap (λ o. feed o ts) (enters (part.Cases h cs outer ∷ opened) (part.Case v true) (wants.Statement tail.Nothing) (omega arith))
@@ -197,25 +197,25 @@ case_in opened v false h cs outer ts lt =
     ap (λ o. feed o ts) (enters (part.Cases h cs outer ∷ opened) (part.Case v false) (wants.Statement tail.Nothing) (omega arith))
 
 -- the cases end
-switch_out : (opened : List Part) (h : ℕ) (cs : List SwitchCase) (outer : List Located) → Gets (and_then (in_switch opened h cs outer) token.Close) opened (outer ++ placed (ir.Switch h cs) ∷ [])
+switch_out : (opened : List OpenedPart) (h : ℕ) (cs : List SwitchCase) (outer : List Located) → Gets (and_then (in_switch opened h cs outer) token.Close) opened (outer ++ placed (ir.Switch h cs) ∷ [])
 unfolding next close_switch settle
 switch_out opened h cs outer = refl
 
 -- a Loop ends
-loop_end : (o : Option State) (opened : List Part) (list body : List Located) (turn : b.Block) (condition : Option ℕ) → Gets o (part.Continuing turn list ∷ opened) body → Gets (feed (and_then o token.Close) (break_if_any condition)) opened (list ++ placed (ir.Loop turn (block_from body) condition) ∷ [])
+loop_end : (o : Option ReadingState) (opened : List OpenedPart) (list body : List Located) (turn : b.Block) (condition : Option ℕ) → Gets o (part.Continuing turn list ∷ opened) body → Gets (feed (and_then o token.Close) (break_if_any condition)) opened (list ++ placed (ir.Loop turn (block_from body) condition) ∷ [])
 unfolding feeds
 loop_end o opened list body turn None h = loop_out o opened list body turn h
 loop_end o opened list body turn (Some c) h = loop_out_if o opened list body turn c h
 
 -- these tokens are read as this list, statement and cases, wherever they may begin
 abbrev ListIsRead : Body → List Token → Type 0
-ListIsRead b ts = (o : Option State) (opened : List Part) (list : List Located) → Gets o opened list → length opened + depth b ≤ 256 → Gets (feed o ts) opened (list ++ list_of b)
+ListIsRead b ts = (o : Option ReadingState) (opened : List OpenedPart) (list : List Located) → Gets o opened list → length opened + depth b ≤ 256 → Gets (feed o ts) opened (list ++ list_of b)
 
 abbrev StatementIsRead : Stmt → List Token → Type 0
-StatementIsRead x ts = (o : Option State) (opened : List Part) (list : List Located) → Gets o opened list → length opened + statement_depth x ≤ 256 → Gets (feed o ts) opened (list ++ located_of x ∷ [])
+StatementIsRead x ts = (o : Option ReadingState) (opened : List OpenedPart) (list : List Located) → Gets o opened list → length opened + statement_depth x ≤ 256 → Gets (feed o ts) opened (list ++ located_of x ∷ [])
 
 abbrev CasesAreRead : Cases → List Token → Type 0
-CasesAreRead cs ts = (opened : List Part) (h : ℕ) (before : List SwitchCase) (outer : List Located) → length opened + 1 + cases_depth cs ≤ 256 → feed (in_switch opened h before outer) ts ≡ in_switch opened h (before ++ cases_of cs) outer
+CasesAreRead cs ts = (opened : List OpenedPart) (h : ℕ) (before : List SwitchCase) (outer : List Located) → length opened + 1 + cases_depth cs ≤ 256 → feed (in_switch opened h before outer) ts ≡ in_switch opened h (before ++ cases_of cs) outer
 
 then_read : (x : Stmt) (rest : Body) (first more : List Token) → StatementIsRead x first → ListIsRead rest more → ListIsRead (Then x rest) (first ++ more)
 unfolding depth list_of

@@ -3,7 +3,7 @@ use Rattle.std.proofs.Common.{◌≡◌, ℕ, List, Some, None, Ok, Err, Result,
 use Rattle.std.specs.Prelude.{IfOk}
 use Rattle.ir_statements.specs.Tree.{Body}
 use Rattle.case_notation.specs.declared.bench.Bench.{Bench}
-use Rattle.case_notation.specs.declared.case.ReadError.{ReadError}
+use Rattle.case_notation.specs.declared.case.CaseError.{CaseError}
 use Rattle.case_notation.specs.Scanning.{SayBody}
 use Rattle.case_notation.specs.Text.{AreTextsOf}
 use Rattle.case_notation.specs.Words.{IsPrintable, words_of}
@@ -24,17 +24,17 @@ reads_made b ts e =
     same_block _ _ (sym e ∙ reads_complete (body_of no_operands b) ts sound.0 sound.1)
 
 -- what was read is said, and what says something is read
-pub body_said : (bench : Bench) (text : List ℕ) (r : Result Block ReadError) → IfOk r (λ b. (ts : List Token) × AreTextsOf bench ts (words_of text) × (reading_of ts ≡ Some b) × IsPrintable text) → IfOk r (λ b. SayBody bench (words_of text) (body_of no_operands b))
+pub body_said : (bench : Bench) (text : List ℕ) (r : Result Block CaseError) → IfOk r (λ b. (ts : List Token) × AreTextsOf bench ts (words_of text) × (reading_of ts ≡ Some b) × IsPrintable text) → IfOk r (λ b. SayBody bench (words_of text) (body_of no_operands b))
 body_said bench text (Err e) h = tt
 body_said bench text (Ok b) (ts, are, e, shown) =
     let sound = reads_sound b ts e in
     record { tokens = ts; are_tokens = are; spelled = sound.0; shallow = sound.1 }
 
-pub body_shown : (bench : Bench) (text : List ℕ) (r : Result Block ReadError) → IfOk r (λ b. (ts : List Token) × AreTextsOf bench ts (words_of text) × (reading_of ts ≡ Some b) × IsPrintable text) → IfOk r (λ b. IsPrintable text)
+pub body_shown : (bench : Bench) (text : List ℕ) (r : Result Block CaseError) → IfOk r (λ b. (ts : List Token) × AreTextsOf bench ts (words_of text) × (reading_of ts ≡ Some b) × IsPrintable text) → IfOk r (λ b. IsPrintable text)
 body_shown bench text (Err e) h = tt
 body_shown bench text (Ok b) (ts, are, e, shown) = shown
 
-pub body_made : (bench : Bench) (text : List ℕ) (r : Result Block ReadError) → IfOk r (λ b. (ts : List Token) × AreTextsOf bench ts (words_of text) × (reading_of ts ≡ Some b) × IsPrintable text) → IfOk r (λ b. b ≡ block_of (body_of no_operands b))
+pub body_made : (bench : Bench) (text : List ℕ) (r : Result Block CaseError) → IfOk r (λ b. (ts : List Token) × AreTextsOf bench ts (words_of text) × (reading_of ts ≡ Some b) × IsPrintable text) → IfOk r (λ b. b ≡ block_of (body_of no_operands b))
 body_made bench text (Err e) h = tt
 body_made bench text (Ok b) (ts, are, e, shown) = reads_made b ts e
 

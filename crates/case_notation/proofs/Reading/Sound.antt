@@ -16,14 +16,14 @@ use Rattle.case_notation.specs.declared.reader.parts.Naming.{Naming}
 use Rattle.case_notation.specs.declared.reader.parts.Naming.TheVariants as naming
 use Rattle.case_notation.specs.declared.reader.parts.Brace.{Brace}
 use Rattle.case_notation.specs.declared.reader.parts.Brace.TheVariants as brace
-use Rattle.case_notation.specs.CaseParts.{Part}
+use Rattle.case_notation.specs.CaseParts.{OpenedPart}
 use Rattle.case_notation.specs.CaseParts as part
 use Rattle.case_notation.specs.declared.reader.parts.Wants.{Wants}
 use Rattle.case_notation.specs.declared.reader.parts.Wants.TheVariants as wants
 use Rattle.case_notation.specs.Feeding.{feeds}
 use Rattle.case_notation.specs.Grammar.{Spells, SpellsStatement, SpellsCases, depth, statement_depth, cases_depth, emitting, call_of, store_of, control_barrier, in_braces, fall_if, break_if_any}
 use Rattle.case_notation.specs.CaseBlocks.{block_from, placed}
-use Rattle.case_notation.specs.Reading.{State, begun, wanting, enter, add_case, close_block, close_accept, close_if, close_case, close_turn, close, close_switch, end_loop, begin, put_alone, begin_at, settle, go_on, take_name, put_named, open_brace, next, step, whole, end_at, finish, reading_of}
+use Rattle.case_notation.specs.Reading.{ReadingState, begun, wanting, enter, add_case, close_block, close_accept, close_if, close_case, close_turn, close, close_switch, end_loop, begin, put_alone, begin_at, settle, go_on, take_name, put_named, open_brace, next, step, whole, end_at, finish, reading_of}
 use Rattle.case_notation.proofs.Reading.Trees.{body_of, body_in, stmt_of, cases_in, block_tree, switch_tree}
 
 -- one statement more, and one case more
@@ -56,7 +56,7 @@ closed list ts h = subst (λ body. Spells body ts) (sym (block_tree list)) h
 closed_depth : (list : List Located) → depth (body_of (block_from list)) ≡ depth (body_in list)
 closed_depth list = ap depth (block_tree list)
 
-abbrev outer_of : Part → List Located
+abbrev outer_of : OpenedPart → List Located
 outer_of (part.Block outer) = outer
 outer_of (part.Accept c outer) = outer
 outer_of (part.Reject c accept outer) = outer
@@ -66,7 +66,7 @@ outer_of (part.Turn outer) = outer
 outer_of (part.Continuing turn outer) = outer
 
 -- the tokens of a part up to where the list at hand begins, where n parts are open around it
-abbrev Heads : ℕ → Part → List Token → Type 0
+abbrev Heads : ℕ → OpenedPart → List Token → Type 0
 Heads n (part.Block outer) ts = ts ≡ token.Block ∷ token.Open ∷ []
 Heads n (part.Accept c outer) ts = ts ≡ token.If ∷ token.Name c ∷ token.Open ∷ []
 Heads n (part.Reject c accept outer) ts =
@@ -79,55 +79,55 @@ Heads n (part.Continuing turn outer) ts =
     (first : List Token) × Spells (body_of turn) first × (suc n + depth (body_of turn) ≤ 256) × (ts ≡ token.Loop ∷ (in_braces first ++ token.Open ∷ []))
 
 -- the tokens that lead to these open parts and this list
-unfoldable Told : List Part → List Located → List Token → Type 0
+unfoldable Told : List OpenedPart → List Located → List Token → Type 0
 Told [] list ts = Spells (body_in list) ts × (depth (body_in list) ≤ 256)
 Told (p ∷ opened) list ts =
     (before : List Token) × (head : List Token) × (inner : List Token) × Told opened (outer_of p) before × Heads (length opened) p head × Spells (body_in list) inner × (suc (length opened) + depth (body_in list) ≤ 256) × (ts ≡ before ++ (head ++ inner))
 
 -- a whole statement more
-Told-more : (opened : List Part) (list : List Located) (ts : List Token) (x : Located) (us : List Token) → Told opened list ts → SpellsStatement (stmt_of x) us → length opened + statement_depth (stmt_of x) ≤ 256 → Told opened (list ++ x ∷ []) (ts ++ us)
+Told-more : (opened : List OpenedPart) (list : List Located) (ts : List Token) (x : Located) (us : List Token) → Told opened list ts → SpellsStatement (stmt_of x) us → length opened + statement_depth (stmt_of x) ≤ 256 → Told opened (list ++ x ∷ []) (ts ++ us)
 unfolding Told
 Told-more [] list ts x us (told, shallow) h d = (Spells-push list x ts us told h, omega (arith, depth-push list x))
 Told-more (p ∷ opened) list ts x us (before, head, inner, told, heads, here, shallow, e) h d =
     (before, head, inner ++ us, told, heads, Spells-push list x inner us here h, omega (arith, depth-push list x), rw e (simp append_assoc))
 
 -- no more parts are open than may be
-Told-shallow : (opened : List Part) (list : List Located) (ts : List Token) → Told opened list ts → length opened ≤ 256
+Told-shallow : (opened : List OpenedPart) (list : List Located) (ts : List Token) → Told opened list ts → length opened ≤ 256
 unfolding Told
 Told-shallow [] list ts h = omega arith
 Told-shallow (p ∷ opened) list ts (before, head, inner, told, heads, here, shallow, e) = omega arith
 
 -- a statement more that opens no brace
-Told-flat : (opened : List Part) (list : List Located) (before : List Token) (x : Located) (us ts : List Token) → Told opened list before → SpellsStatement (stmt_of x) us → statement_depth (stmt_of x) ≡ 0 → ts ≡ before ++ us → Told opened (list ++ x ∷ []) ts
+Told-flat : (opened : List OpenedPart) (list : List Located) (before : List Token) (x : Located) (us ts : List Token) → Told opened list before → SpellsStatement (stmt_of x) us → statement_depth (stmt_of x) ≡ 0 → ts ≡ before ++ us → Told opened (list ++ x ∷ []) ts
 Told-flat opened list before x us ts told h flat e =
     let shallow = Told-shallow opened list before told in
     rw e (Told-more opened list before x us told h (omega arith))
 
 -- before, and then these
-abbrev Behind : List Part → List Located → List Token → List Token → Type 0
+abbrev Behind : List OpenedPart → List Located → List Token → List Token → Type 0
 Behind opened list ts more = (before : List Token) × Told opened list before × (ts ≡ before ++ more)
 
 -- before the brace of a part that is open already
-abbrev Between : List Part → List Located → List Token → Type 0
+abbrev Between : List OpenedPart → List Located → List Token → Type 0
 Between [] list ts = ⊥
 Between (p ∷ opened) list ts =
     (before : List Token) × (head : List Token) × Told opened (outer_of p) before × Heads (length opened) p (head ++ token.Open ∷ []) × (suc (length opened) ≤ 256) × (list ≡ []) × (ts ≡ before ++ head)
 
 -- behind both lists of a Loop
-abbrev BehindLoop : List Part → List Located → List Token → List Token → Type 0
+abbrev BehindLoop : List OpenedPart → List Located → List Token → List Token → Type 0
 BehindLoop (part.Continuing turn outer ∷ opened) list ts more =
     (before : List Token) × (first : List Token) × (second : List Token) × Told opened outer before × Spells (body_of turn) first × Spells (body_in list) second × (suc (length opened) + depth (body_of turn) ≤ 256) × (suc (length opened) + depth (body_in list) ≤ 256) × (ts ≡ before ++ (token.Loop ∷ (in_braces first ++ (in_braces second ++ more))))
 BehindLoop opened list ts more = ⊥
 
 -- the tokens that lead to a state
-abbrev TellsTail : List Part → List Located → Tail → List Token → Type 0
+abbrev TellsTail : List OpenedPart → List Located → Tail → List Token → Type 0
 TellsTail opened list tail.Nothing ts = Told opened list ts
 TellsTail opened list (tail.Emit a) ts = Behind opened list ts (token.Emit ∷ token.Name a ∷ [])
 TellsTail opened list tail.Return ts = Behind opened list ts (token.Return ∷ [])
 TellsTail opened list tail.Loop ts = BehindLoop opened list ts []
 TellsTail opened list tail.Call ts = Behind opened list ts (token.Call ∷ token.Callee ∷ [])
 
-abbrev TellsName : List Part → List Located → Naming → List Token → Type 0
+abbrev TellsName : List OpenedPart → List Located → Naming → List Token → Type 0
 TellsName opened list naming.First ts = Behind opened list ts (token.Emit ∷ [])
 TellsName opened list (naming.Last a) ts = Behind opened list ts (token.Emit ∷ token.Name a ∷ token.To ∷ [])
 TellsName opened list naming.Condition ts = Behind opened list ts (token.If ∷ [])
@@ -137,14 +137,14 @@ TellsName opened list naming.Pointer ts = Behind opened list ts (token.Store ∷
 TellsName opened list (naming.Stored a) ts = Behind opened list ts (token.Store ∷ token.Name a ∷ [])
 TellsName opened list naming.Result ts = Behind opened list ts (token.Call ∷ token.Callee ∷ token.Arrow ∷ [])
 
-abbrev TellsBrace : List Part → List Located → Brace → List Token → Type 0
+abbrev TellsBrace : List OpenedPart → List Located → Brace → List Token → Type 0
 TellsBrace opened list brace.Block ts = Behind opened list ts (token.Block ∷ [])
 TellsBrace opened list (brace.Accept c) ts = Behind opened list ts (token.If ∷ token.Name c ∷ [])
 TellsBrace opened list (brace.Cases h) ts = Behind opened list ts (token.Switch ∷ token.Name h ∷ [])
 TellsBrace opened list (brace.Case v f) ts = Behind opened [] ts (token.Value v ∷ fall_if f)
 TellsBrace opened list brace.Turn ts = Behind opened list ts (token.Loop ∷ [])
 
-abbrev Tells : List Part → List Located → Wants → List Token → Type 0
+abbrev Tells : List OpenedPart → List Located → Wants → List Token → Type 0
 Tells opened list (wants.Statement t) ts = TellsTail opened list t ts
 Tells opened list (wants.Name n) ts = TellsName opened list n ts
 Tells opened list (wants.Open b) ts = TellsBrace opened list b ts
@@ -153,10 +153,10 @@ Tells opened list wants.Callee ts = Behind opened list ts (token.Call ∷ [])
 Tells opened list wants.CaseValue ts = Told opened [] ts
 Tells opened list (wants.CaseRest v) ts = Behind opened [] ts (token.Value v ∷ [])
 
-abbrev LeadsTo : State → List Token → Type 0
+abbrev LeadsTo : ReadingState → List Token → Type 0
 LeadsTo s ts = Tells s.opened s.list s.wants ts
 
-leads_to : (opened : List Part) (list : List Located) (w : Wants) (ts : List Token) → Tells opened list w ts → (s : State) → wanting opened list w ≡ Some s → LeadsTo s ts
+leads_to : (opened : List OpenedPart) (list : List Located) (w : Wants) (ts : List Token) → Tells opened list w ts → (s : ReadingState) → wanting opened list w ≡ Some s → LeadsTo s ts
 leads_to opened list w ts h s e =
     let same : record { opened = opened; list = list; wants = w } ≡ s = cc in subst (λ x. LeadsTo x ts) same h
 
@@ -164,22 +164,22 @@ none_some : {A : Type 0} (s : A) → None ≡ Some s → ⊥
 none_some s e = cc
 
 -- the same behind one token more
-behind : (opened : List Part) (list : List Located) (ts more : List Token) (t : Token) → Behind opened list ts more → Behind opened list (ts ++ t ∷ []) (more ++ t ∷ [])
+behind : (opened : List OpenedPart) (list : List Located) (ts more : List Token) (t : Token) → Behind opened list ts more → Behind opened list (ts ++ t ∷ []) (more ++ t ∷ [])
 behind opened list ts more t (before, told, e) = (before, told, rw (e, append_assoc) refl)
 
-told_at : (opened : List Part) (list : List Located) (w : Wants) (ts : List Token) → Told opened list ts → (s : State) → wanting opened list w ≡ Some s → Told s.opened s.list ts
+told_at : (opened : List OpenedPart) (list : List Located) (w : Wants) (ts : List Token) → Told opened list ts → (s : ReadingState) → wanting opened list w ≡ Some s → Told s.opened s.list ts
 told_at opened list w ts h s e =
     let same : record { opened = opened; list = list; wants = w } ≡ s = cc in subst (λ x. Told x.opened x.list ts) same h
 
 -- a Loop ends
-loop_told : (opened : List Part) (list : List Located) (condition : Option ℕ) (ts : List Token) → BehindLoop opened list ts (break_if_any condition) → (s : State) → end_loop opened list condition ≡ Some s → Told s.opened s.list ts
+loop_told : (opened : List OpenedPart) (list : List Located) (condition : Option ℕ) (ts : List Token) → BehindLoop opened list ts (break_if_any condition) → (s : ReadingState) → end_loop opened list condition ≡ Some s → Told s.opened s.list ts
 unfolding end_loop Spells depth
 loop_told (part.Continuing turn outer ∷ opened) list condition ts (before, first, second, told, one, two, low, high, e) s at =
     told_at opened _ _ ts (rw e (Told-more opened outer before (placed (ir.Loop turn (block_from list) condition)) (token.Loop ∷ (in_braces first ++ (in_braces second ++ break_if_any condition))) told (first, second, one, closed list second two, refl) (omega (arith, closed_depth list)))) s at
 loop_told opened list condition ts h s at = absurd h
 
 -- a statement ends with no tail
-settle_told : (opened : List Part) (list : List Located) (t : Tail) (ts : List Token) → TellsTail opened list t ts → (s : State) → settle opened list t ≡ Some s → Told s.opened s.list ts
+settle_told : (opened : List OpenedPart) (list : List Located) (t : Tail) (ts : List Token) → TellsTail opened list t ts → (s : ReadingState) → settle opened list t ≡ Some s → Told s.opened s.list ts
 unfolding settle Spells depth
 settle_told opened list tail.Nothing ts h s at = told_at opened list _ ts h s at
 settle_told opened list (tail.Emit a) ts (before, told, e) s at =
@@ -191,7 +191,7 @@ settle_told opened list tail.Call ts (before, told, e) s at =
     told_at opened _ _ ts (Told-flat opened list before (placed (call_of None)) (token.Call ∷ token.Callee ∷ []) ts told (inr (inl (None, refl, refl))) refl e) s at
 
 -- a case ends
-case_told : (opened : List Part) (v : SwitchValue) (f : Bool) (list : List Located) (ts : List Token) → Told (part.Case v f ∷ opened) list ts → (s : State) → add_case opened [] (SwitchCase' v (block_from list) f) ≡ Some s → LeadsTo s (ts ++ token.Close ∷ [])
+case_told : (opened : List OpenedPart) (v : SwitchValue) (f : Bool) (list : List Located) (ts : List Token) → Told (part.Case v f ∷ opened) list ts → (s : ReadingState) → add_case opened [] (SwitchCase' v (block_from list) f) ≡ Some s → LeadsTo s (ts ++ token.Close ∷ [])
 unfolding add_case Told Spells depth
 case_told (part.Cases h cs outer ∷ opened) v f list ts (before, head, inner, (before', head', none, told, (cases, spelled, bound, at'), empty, shallow', e'), at, here, shallow, e) s to =
     let opening : before ≡ before' ++ (token.Switch ∷ token.Name h ∷ token.Open ∷ cases) = rw (e', at', empty, append-nil cases) refl in
@@ -199,7 +199,7 @@ case_told (part.Cases h cs outer ∷ opened) v f list ts (before, head, inner, (
 case_told opened v f list ts h s to = absurd (none_some _ to)
 
 -- the list at hand is closed
-close_told : (opened : List Part) (list : List Located) (ts : List Token) → Told opened list ts → (s : State) → close opened list ≡ Some s → LeadsTo s (ts ++ token.Close ∷ [])
+close_told : (opened : List OpenedPart) (list : List Located) (ts : List Token) → Told opened list ts → (s : ReadingState) → close opened list ≡ Some s → LeadsTo s (ts ++ token.Close ∷ [])
 unfolding close close_block close_accept close_if close_case close_turn Told Spells depth
 close_told [] list ts h s to = absurd (none_some _ to)
 close_told (part.Block outer ∷ opened) list ts (before, head, inner, told, at, here, shallow, e) s to =
@@ -217,7 +217,7 @@ close_told (part.Continuing turn outer ∷ opened) list ts (before, head, inner,
     leads_to _ _ _ _ (before, first, inner, told, one, here, bound, shallow, rw (e, at) (simp (append_assoc, append-nil))) s to
 
 -- a Switch is closed
-switch_told : (opened : List Part) (ts : List Token) → Told opened [] ts → (s : State) → close_switch opened ≡ Some s → LeadsTo s (ts ++ token.Close ∷ [])
+switch_told : (opened : List OpenedPart) (ts : List Token) → Told opened [] ts → (s : ReadingState) → close_switch opened ≡ Some s → LeadsTo s (ts ++ token.Close ∷ [])
 unfolding close_switch Told Spells depth
 switch_told (part.Cases h cs outer ∷ opened) ts (before, head, none, told, (cases, spelled, bound, at), empty, shallow, e) s to =
     let x = placed (ir.Switch h cs) in
@@ -231,7 +231,7 @@ pick true x s e = (refl, e)
 pick false x s e = cc
 
 -- a token where a statement may begin
-begin_told : (opened : List Part) (list : List Located) (ts : List Token) → Told opened list ts → (t : Token) (s : State) → begin opened list t ≡ Some s → LeadsTo s (ts ++ t ∷ [])
+begin_told : (opened : List OpenedPart) (list : List Located) (ts : List Token) → Told opened list ts → (t : Token) (s : ReadingState) → begin opened list t ≡ Some s → LeadsTo s (ts ++ t ∷ [])
 unfolding begin put_alone Spells depth
 begin_told opened list ts h token.Emit s to = leads_to _ _ _ _ (ts, h, refl) s to
 begin_told opened list ts h token.Block s to = leads_to _ _ _ _ (ts, h, refl) s to
@@ -257,17 +257,17 @@ bind_some None f b e = cc
 bind_some (Some a) f b e = (a, refl, e)
 
 -- a token that is no tail
-fresh_told : (opened : List Part) (list : List Located) (t : Tail) (ts : List Token) → TellsTail opened list t ts → (w : Token) (s : State) → option_and_then (begin_at w) (settle opened list t) ≡ Some s → LeadsTo s (ts ++ w ∷ [])
+fresh_told : (opened : List OpenedPart) (list : List Located) (t : Tail) (ts : List Token) → TellsTail opened list t ts → (w : Token) (s : ReadingState) → option_and_then (begin_at w) (settle opened list t) ≡ Some s → LeadsTo s (ts ++ w ∷ [])
 fresh_told opened list t ts h w s to =
     let found = bind_some (settle opened list t) (begin_at w) s to in
     begin_told found.0.opened found.0.list ts (settle_told opened list t ts h found.0 found.1) w s found.2
 
-break_if_told : (opened : List Part) (list : List Located) (ts : List Token) → BehindLoop opened list ts [] → (s : State) → wanting opened list (wants.Name naming.BreakIf) ≡ Some s → LeadsTo s (ts ++ token.BreakIf ∷ [])
+break_if_told : (opened : List OpenedPart) (list : List Located) (ts : List Token) → BehindLoop opened list ts [] → (s : ReadingState) → wanting opened list (wants.Name naming.BreakIf) ≡ Some s → LeadsTo s (ts ++ token.BreakIf ∷ [])
 break_if_told (part.Continuing turn outer ∷ opened) list ts (before, first, second, told, one, two, low, high, e) s to =
     leads_to _ _ _ _ (before, first, second, told, one, two, low, high, rw e (simp (append_assoc, append-nil))) s to
 break_if_told opened list ts h s to = absurd h
 
-go_on_told : (opened : List Part) (list : List Located) (t : Tail) (ts : List Token) → TellsTail opened list t ts → (w : Token) (s : State) → go_on opened list t w ≡ Some s → LeadsTo s (ts ++ w ∷ [])
+go_on_told : (opened : List OpenedPart) (list : List Located) (t : Tail) (ts : List Token) → TellsTail opened list t ts → (w : Token) (s : ReadingState) → go_on opened list t w ≡ Some s → LeadsTo s (ts ++ w ∷ [])
 unfolding go_on Spells depth
 go_on_told opened list (tail.Emit a) ts h token.To s to = leads_to _ _ _ _ (behind opened list ts _ token.To h) s to
 go_on_told opened list tail.Return ts (before, told, e) (token.Name h) s to =
@@ -276,14 +276,14 @@ go_on_told opened list tail.Loop ts h token.BreakIf s to = break_if_told opened 
 go_on_told opened list tail.Call ts h token.Arrow s to = leads_to _ _ _ _ (behind opened list ts _ token.Arrow h) s to
 go_on_told opened list t ts h w s to = fresh_told opened list t ts h w s to
 
-end_told : (opened : List Part) (list : List Located) (c : ℕ) (ts : List Token) → BehindLoop opened list ts (token.BreakIf ∷ []) → (s : State) → end_loop opened list (Some c) ≡ Some s → LeadsTo s (ts ++ token.Name c ∷ [])
+end_told : (opened : List OpenedPart) (list : List Located) (c : ℕ) (ts : List Token) → BehindLoop opened list ts (token.BreakIf ∷ []) → (s : ReadingState) → end_loop opened list (Some c) ≡ Some s → LeadsTo s (ts ++ token.Name c ∷ [])
 unfolding end_loop Spells depth
 end_told (part.Continuing turn outer ∷ opened) list c ts (before, first, second, told, one, two, low, high, e) s to =
     let whole_told = Told-more opened outer before (placed (ir.Loop turn (block_from list) (Some c))) (token.Loop ∷ (in_braces first ++ (in_braces second ++ (token.BreakIf ∷ token.Name c ∷ [])))) told (first, second, one, closed list second two, refl) (omega (arith, closed_depth list)) in
     leads_to _ _ _ _ (rw e (simp append_assoc (simp append_assoc at whole_told))) s to
 end_told opened list c ts h s to = absurd h
 
-name_told : (opened : List Part) (list : List Located) (n : Naming) (ts : List Token) → TellsName opened list n ts → (h : ℕ) (s : State) → take_name opened list n h ≡ Some s → LeadsTo s (ts ++ token.Name h ∷ [])
+name_told : (opened : List OpenedPart) (list : List Located) (n : Naming) (ts : List Token) → TellsName opened list n ts → (h : ℕ) (s : ReadingState) → take_name opened list n h ≡ Some s → LeadsTo s (ts ++ token.Name h ∷ [])
 unfolding take_name put_named Spells depth
 name_told opened list naming.First ts g h s to = leads_to _ _ _ _ (behind opened list ts _ (token.Name h) g) s to
 name_told opened list (naming.Last a) ts (before, told, e) h s to =
@@ -299,24 +299,24 @@ name_told opened list (naming.Stored a) ts (before, told, e) h s to =
 name_told opened list naming.Result ts (before, told, e) h s to =
     leads_to _ _ _ _ (Told-flat opened list before (placed (call_of (Some h))) (token.Call ∷ token.Callee ∷ token.Arrow ∷ token.Name h ∷ []) _ told (inr (inl (Some h, refl, refl))) refl (rw (e, append_assoc) refl)) s to
 
-entered : (opened : List Part) (part : Part) (w : Wants) (s : State) → enter opened part w ≡ Some s → (length opened < 256) × (wanting (part ∷ opened) [] w ≡ Some s)
+entered : (opened : List OpenedPart) (part : OpenedPart) (w : Wants) (s : ReadingState) → enter opened part w ≡ Some s → (length opened < 256) × (wanting (part ∷ opened) [] w ≡ Some s)
 entered opened part w s e =
     let found = pick (nat_lt (length opened) 256) _ s e in (leb-true _ _ found.0, found.1)
 
 -- one part more is open
-opened_told : (opened : List Part) (p : Part) (before head : List Token) → Told opened (outer_of p) before → Heads (length opened) p head → length opened < 256 → (ts : List Token) → ts ≡ before ++ head → Told (p ∷ opened) [] ts
+opened_told : (opened : List OpenedPart) (p : OpenedPart) (before head : List Token) → Told opened (outer_of p) before → Heads (length opened) p head → length opened < 256 → (ts : List Token) → ts ≡ before ++ head → Told (p ∷ opened) [] ts
 unfolding Told Spells depth
 opened_told opened p before head told heads lt ts e =
     (before, head, [], told, heads, refl, omega arith, rw (e, append-nil head) refl)
 
 -- the brace of a part that is open already
-between_told : (opened : List Part) (list : List Located) (ts : List Token) → Between opened list ts → Told opened list (ts ++ token.Open ∷ [])
+between_told : (opened : List OpenedPart) (list : List Located) (ts : List Token) → Between opened list ts → Told opened list (ts ++ token.Open ∷ [])
 unfolding Told Spells depth
 between_told [] list ts h = absurd h
 between_told (p ∷ opened) list ts (before, head, told, heads, low, none, e) =
     rw none (before, head ++ token.Open ∷ [], [], told, heads, refl, omega arith, rw e (simp (append_assoc, append-nil)))
 
-brace_told : (opened : List Part) (list : List Located) (b : Brace) (ts : List Token) → TellsBrace opened list b ts → (s : State) → open_brace opened list b ≡ Some s → LeadsTo s (ts ++ token.Open ∷ [])
+brace_told : (opened : List OpenedPart) (list : List Located) (b : Brace) (ts : List Token) → TellsBrace opened list b ts → (s : ReadingState) → open_brace opened list b ≡ Some s → LeadsTo s (ts ++ token.Open ∷ [])
 unfolding open_brace Spells depth
 brace_told opened list brace.Block ts (before, told, e) s to =
     let found = entered opened (part.Block list) _ s to in
@@ -334,7 +334,7 @@ brace_told opened list brace.Turn ts (before, told, e) s to =
     let found = entered opened (part.Turn list) _ s to in
     leads_to _ _ _ _ (opened_told opened (part.Turn list) before _ told refl found.0 _ (rw (e, append_assoc) refl)) s found.1
 
-next_told : (opened : List Part) (list : List Located) (w : Wants) (ts : List Token) → Tells opened list w ts → (t : Token) (s : State) → next opened list w t ≡ Some s → LeadsTo s (ts ++ t ∷ [])
+next_told : (opened : List OpenedPart) (list : List Located) (w : Wants) (ts : List Token) → Tells opened list w ts → (t : Token) (s : ReadingState) → next opened list w t ≡ Some s → LeadsTo s (ts ++ t ∷ [])
 unfolding next
 next_told opened list (wants.Statement tail) ts h t s to = go_on_told opened list tail ts h t s to
 next_told opened list (wants.Name n) ts h (token.Name a) s to = name_told opened list n ts h a s to
@@ -348,7 +348,7 @@ next_told opened list (wants.CaseRest v) ts h token.Fall s to =
 next_told opened list (wants.CaseRest v) ts h token.Open s to = brace_told opened list (brace.Case v false) ts h s to
 next_told opened list w ts h t s to = absurd (none_some _ to)
 
-feed_none : (ts : List Token) (s : State) → feeds step None ts ≡ Some s → ⊥
+feed_none : (ts : List Token) (s : ReadingState) → feeds step None ts ≡ Some s → ⊥
 unfolding feeds
 feed_none [] s e = none_some s e
 feed_none (t ∷ ts) s e = feed_none ts s e
@@ -358,7 +358,7 @@ stepped None f = tt
 stepped (Some y) f = f y refl
 
 -- tokens that were read led to a state that tells them
-feed_told : (ts : List Token) (o : Option State) (before : List Token) → IfSome o (λ s. LeadsTo s before) → (s : State) → feeds step o ts ≡ Some s → LeadsTo s (before ++ ts)
+feed_told : (ts : List Token) (o : Option ReadingState) (before : List Token) → IfSome o (λ s. LeadsTo s before) → (s : ReadingState) → feeds step o ts ≡ Some s → LeadsTo s (before ++ ts)
 unfolding feeds
 feed_told ts None before h s e = absurd (feed_none ts s e)
 feed_told [] (Some x) before h s e =
@@ -367,14 +367,14 @@ feed_told (t ∷ ts) (Some x) before h s e =
     rw (← append_assoc before (t ∷ []) ts) (feed_told ts (step x t) (before ++ t ∷ []) (stepped (step x t) (λ y w. next_told x.opened x.list x.wants before h t y w)) s e)
 
 -- the body is whole
-whole_told : (opened : List Part) (list : List Located) (ts : List Token) → Told opened list ts → (b : Block) → whole opened list ≡ Some b → Spells (body_of b) ts × (depth (body_of b) ≤ 256)
+whole_told : (opened : List OpenedPart) (list : List Located) (ts : List Token) → Told opened list ts → (b : Block) → whole opened list ≡ Some b → Spells (body_of b) ts × (depth (body_of b) ≤ 256)
 unfolding Told
 whole_told [] list ts h b e =
     let same : block_from list ≡ b = cc in
     subst (λ x. Spells (body_of x) ts × (depth (body_of x) ≤ 256)) same (closed list ts h.0, omega (arith, closed_depth list, h.1))
 whole_told (p ∷ opened) list ts h b e = absurd (none_some _ e)
 
-finish_told : (opened : List Part) (list : List Located) (w : Wants) (ts : List Token) → Tells opened list w ts → (b : Block) → end_at opened list w ≡ Some b → Spells (body_of b) ts × (depth (body_of b) ≤ 256)
+finish_told : (opened : List OpenedPart) (list : List Located) (w : Wants) (ts : List Token) → Tells opened list w ts → (b : Block) → end_at opened list w ≡ Some b → Spells (body_of b) ts × (depth (body_of b) ≤ 256)
 unfolding end_at
 finish_told opened list (wants.Statement tail) ts h b e =
     let found = bind_some (settle opened list tail) (λ s. whole s.opened s.list) b e in

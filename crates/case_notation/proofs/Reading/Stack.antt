@@ -6,7 +6,7 @@ use Rattle.ir_statements.specs.declared.statements.Block.{Block}
 use Rattle.ir_statements.specs.declared.statements.Located.{Located}
 use Rattle.ir_statements.specs.declared.statements.SwitchCase.{SwitchCase}
 use Rattle.ir_statements.specs.declared.operations.SwitchValue.{SwitchValue}
-use Rattle.case_notation.specs.declared.case.ReadError.{ReadError}
+use Rattle.case_notation.specs.declared.case.CaseError.{CaseError}
 use Rattle.case_notation.specs.declared.reader.parts.Frame.{Frame}
 use Rattle.case_notation.specs.declared.reader.parts.Kind.{Kind}
 use Rattle.case_notation.specs.declared.reader.parts.Kind.TheVariants as kind
@@ -14,9 +14,9 @@ use Rattle.case_notation.specs.declared.reader.parts.Tail.TheVariants as tail
 use Rattle.case_notation.specs.declared.reader.parts.Wants.TheVariants as wants
 use Rattle.case_notation.specs.CaseBlocks.{block_from}
 use Rattle.case_notation.specs.Feeding.{Steps}
-use Rattle.case_notation.specs.CaseParts.{Part, part_as}
+use Rattle.case_notation.specs.CaseParts.{OpenedPart, part_as}
 use Rattle.case_notation.specs.CaseParts as part
-use Rattle.case_notation.specs.Reading.{State, wanting, close, close_block, close_accept, close_if, close_case, close_turn, add_case}
+use Rattle.case_notation.specs.Reading.{ReadingState, wanting, close, close_block, close_accept, close_if, close_case, close_turn, add_case}
 use Rattle.case_notation.specs.Views.{newest_first, part_of}
 
 pub newest_none : (fs : List Frame) → fs ≡ [] → newest_first fs ≡ []
@@ -34,11 +34,11 @@ newest_length fs = length-map _ part_of ∙ length-reverse fs
 pub ruleset stacks = (newest_none, newest_push, newest_length)
 
 -- where a call leads to what another one leads to
-pub moved : (o p : Option State) (r : Result Unit ReadError) (s : State) → o ≡ p → Steps p r s → Steps o r s
+pub moved : (o p : Option ReadingState) (r : Result Unit CaseError) (s : ReadingState) → o ≡ p → Steps p r s → Steps o r s
 moved o p r s e h = subst (λ x. Steps x r s) (sym e) h
 
 -- a case behind a part that is no Switch
-no_switch : (k : Kind) (outer list : List Located) (rest : List Part) (c : SwitchCase) → ((h : ℕ) (cases : List SwitchCase) → k ≡ kind.Cases h cases → ⊥) → add_case (part_as k outer ∷ rest) list c ≡ None
+no_switch : (k : Kind) (outer list : List Located) (rest : List OpenedPart) (c : SwitchCase) → ((h : ℕ) (cases : List SwitchCase) → k ≡ kind.Cases h cases → ⊥) → add_case (part_as k outer ∷ rest) list c ≡ None
 unfolding add_case
 no_switch (kind.Cases h cases) outer list rest c other = absurd (other h cases refl)
 no_switch kind.Block outer list rest c other = refl
@@ -49,7 +49,7 @@ no_switch kind.Turn outer list rest c other = refl
 no_switch (kind.Continuing turn) outer list rest c other = refl
 
 -- the brace of another part
-not_accept : (k : Kind) (outer list : List Located) (rest : List Part) → ((c : ℕ) → k ≡ kind.Accept c → ⊥) → close_accept (part_as k outer ∷ rest) list ≡ None
+not_accept : (k : Kind) (outer list : List Located) (rest : List OpenedPart) → ((c : ℕ) → k ≡ kind.Accept c → ⊥) → close_accept (part_as k outer ∷ rest) list ≡ None
 unfolding close_accept
 not_accept kind.Block outer list rest other = refl
 not_accept (kind.Accept h) outer list rest other = absurd (other h refl)
@@ -59,7 +59,7 @@ not_accept (kind.Case v f) outer list rest other = refl
 not_accept kind.Turn outer list rest other = refl
 not_accept (kind.Continuing turn) outer list rest other = refl
 
-not_turn : (k : Kind) (outer list : List Located) (rest : List Part) → (k ≡ kind.Turn → ⊥) → close_turn (part_as k outer ∷ rest) list ≡ None
+not_turn : (k : Kind) (outer list : List Located) (rest : List OpenedPart) → (k ≡ kind.Turn → ⊥) → close_turn (part_as k outer ∷ rest) list ≡ None
 unfolding close_turn
 not_turn kind.Block outer list rest other = refl
 not_turn (kind.Accept h) outer list rest other = refl
@@ -71,7 +71,7 @@ not_turn (kind.Continuing turn) outer list rest other = refl
 
 -- the newest part, which is the last of the stack
 module _ (fs : List Frame) (i : ℕ) (f : Frame) (end : suc i ≡ length fs) (at : f ≡ get_or fs i f) where
-  rest : List Part
+  rest : List OpenedPart
   rest = newest_first (take i fs)
 
   top : newest_first fs ≡ part_of f ∷ rest

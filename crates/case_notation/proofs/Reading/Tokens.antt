@@ -25,7 +25,7 @@ use Rattle.case_notation.specs.declared.token.Token.{Token}
 use Rattle.case_notation.specs.declared.token.Token.TheVariants as token
 use Rattle.case_notation.specs.Bench.{names_of}
 use Rattle.case_notation.specs.Lookup.{lookup, shared_words, own_words, meaning_of}
-use Rattle.case_notation.specs.Text.{IsValueText, IsTextOf, AreTextsOf}
+use Rattle.case_notation.specs.Text.{IsValueText, IsTokenText, AreTextsOf}
 
 -- what holds of a text and what stands beside it, all along a table
 abbrev AllEntries : {X : Type 0} → (X → List ℕ → Type 0) → List (List ℕ × X) → Type 0
@@ -45,15 +45,15 @@ lookup_found Q ((text, y) ∷ rest) w x all e =
     ]
 
 -- a word that is found is the text of what it means
-pub shared_found : (bench : Bench) (w : List ℕ) (t : Token) → lookup shared_words w ≡ Some t → IsTextOf bench t w
-shared_found P w t e = lookup_found (IsTextOf P) shared_words w t (refl, (refl, (refl, (refl, (refl, (refl, (refl, (refl, (refl, (refl, (refl, (refl, (refl, (refl, (refl, (refl, (refl, (refl, (refl, (refl, (refl, (refl, tt)))))))))))))))))))))) e
-shared_found C w t e = lookup_found (IsTextOf C) shared_words w t (refl, (refl, (refl, (refl, (refl, (refl, (refl, (refl, (refl, (refl, (refl, (refl, (refl, (refl, (refl, (refl, (refl, (refl, (refl, (refl, (refl, (refl, tt)))))))))))))))))))))) e
-shared_found D w t e = lookup_found (IsTextOf D) shared_words w t (refl, (refl, (refl, (refl, (refl, (refl, (refl, (refl, (refl, (refl, (refl, (refl, (refl, (refl, (refl, (refl, (refl, (refl, (refl, (refl, (refl, (refl, tt)))))))))))))))))))))) e
+pub shared_found : (bench : Bench) (w : List ℕ) (t : Token) → lookup shared_words w ≡ Some t → IsTokenText bench t w
+shared_found P w t e = lookup_found (IsTokenText P) shared_words w t (refl, (refl, (refl, (refl, (refl, (refl, (refl, (refl, (refl, (refl, (refl, (refl, (refl, (refl, (refl, (refl, (refl, (refl, (refl, (refl, (refl, (refl, tt)))))))))))))))))))))) e
+shared_found C w t e = lookup_found (IsTokenText C) shared_words w t (refl, (refl, (refl, (refl, (refl, (refl, (refl, (refl, (refl, (refl, (refl, (refl, (refl, (refl, (refl, (refl, (refl, (refl, (refl, (refl, (refl, (refl, tt)))))))))))))))))))))) e
+shared_found D w t e = lookup_found (IsTokenText D) shared_words w t (refl, (refl, (refl, (refl, (refl, (refl, (refl, (refl, (refl, (refl, (refl, (refl, (refl, (refl, (refl, (refl, (refl, (refl, (refl, (refl, (refl, (refl, tt)))))))))))))))))))))) e
 
-pub own_found : (bench : Bench) (w : List ℕ) (t : Token) → lookup (own_words bench) w ≡ Some t → IsTextOf bench t w
+pub own_found : (bench : Bench) (w : List ℕ) (t : Token) → lookup (own_words bench) w ≡ Some t → IsTokenText bench t w
 own_found P w t e = cc
-own_found C w t e = lookup_found (IsTextOf C) (own_words C) w t ((refl, refl), ((refl, refl), ((refl, refl), (refl, tt)))) e
-own_found D w t e = lookup_found (IsTextOf D) (own_words D) w t (refl, tt) e
+own_found C w t e = lookup_found (IsTokenText C) (own_words C) w t ((refl, refl), ((refl, refl), ((refl, refl), (refl, tt)))) e
+own_found D w t e = lookup_found (IsTokenText D) (own_words D) w t (refl, tt) e
 
 -- what the text of a token is looked up as
 abbrev meant : Token → Option Token
@@ -156,7 +156,7 @@ not_true : false ≡ true → ⊥
 not_true e = cc
 
 -- a text of a token means it
-text_is : (bench : Bench) (t : Token) (w : List ℕ) → IsTextOf bench t w → meaning_of bench w ≡ meant t
+text_is : (bench : Bench) (t : Token) (w : List ℕ) → IsTokenText bench t w → meaning_of bench w ≡ meant t
 unfolding meaning_of
 text_is bench (token.Name h) w e = name_is bench h w e
 text_is bench (token.Value (I32 z)) w (fits, e) =
@@ -185,19 +185,19 @@ meant_back (token.Value v) t e = cc
 meant_back u t e = cc
 
 -- what is looked up as nothing is a value
-value_back : (bench : Bench) (u : Token) (w : List ℕ) → meant u ≡ None → IsTextOf bench u w → (v : SwitchValue) × (u ≡ token.Value v) × IsValueText v w
+value_back : (bench : Bench) (u : Token) (w : List ℕ) → meant u ≡ None → IsTokenText bench u w → (v : SwitchValue) × (u ≡ token.Value v) × IsValueText v w
 value_back bench (token.Value v) w e k = (v, refl, k)
 value_back bench u w e k = cc
 
 -- a word is the text of one token
-pub one_token : (bench : Bench) (t u : Token) (w : List ℕ) → IsTextOf bench t w → IsTextOf bench u w → t ≡ u
+pub one_token : (bench : Bench) (t u : Token) (w : List ℕ) → IsTokenText bench t w → IsTokenText bench u w → t ≡ u
 one_token bench (token.Value v) u w a b =
     let value = value_back bench u w (sym (text_is bench u w b) ∙ text_is bench (token.Value v) w a) b in
     ap token.Value (one_value v value.0 w a value.2) ∙ sym value.1
 one_token bench t u w a b = sym (meant_back u t (sym (text_is bench u w b) ∙ text_is bench t w a))
 
 -- a word that is nothing that can be looked up, and no value, is no text of a token
-pub no_token : (bench : Bench) (w : List ℕ) → lookup shared_words w ≡ None → lookup (own_words bench) w ≡ None → ((v : SwitchValue) → IsValueText v w → ⊥) → (t : Token) → IsTextOf bench t w → ⊥
+pub no_token : (bench : Bench) (w : List ℕ) → lookup shared_words w ≡ None → lookup (own_words bench) w ≡ None → ((v : SwitchValue) → IsValueText v w → ⊥) → (t : Token) → IsTokenText bench t w → ⊥
 unfolding meaning_of
 no_token bench w not_shared not_own no_value t a =
     let none : meaning_of bench w ≡ None = rw not_shared not_own in
@@ -242,7 +242,7 @@ signed_shown (pos n) lt = decimal_shown n (omega arith)
 signed_shown (negsuc n) lt =
     All-cons (λ b. is_visible b ≡ true) 45 (decimal (suc n)) refl (decimal_shown (suc n) (omega arith))
 
-pub text_visible : (bench : Bench) (t : Token) (w : List ℕ) → IsTextOf bench t w → AllPass is_visible w
+pub text_visible : (bench : Bench) (t : Token) (w : List ℕ) → IsTokenText bench t w → AllPass is_visible w
 text_visible P (token.Name h) w e = name_shown (names_of P) (refl, (refl, (refl, (refl, (refl, (refl, tt)))))) h w e
 text_visible C (token.Name h) w e = name_shown (names_of C) (refl, (refl, (refl, (refl, (refl, (refl, (refl, tt))))))) h w e
 text_visible D (token.Name h) w e = name_shown (names_of D) (refl, (refl, (refl, (refl, (refl, (refl, (refl, tt))))))) h w e

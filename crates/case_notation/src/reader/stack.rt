@@ -5,7 +5,7 @@ ghost use Rattle.case_notation.specs.CaseParts.{kind_of};
 ghost use Rattle.case_notation.specs.Reading.{behind_brace};
 
 use crate::build::push;
-use crate::case::ReadError;
+use crate::case::CaseError;
 use crate::reader::parts::{Brace, Frame, Kind, Tail, Wants};
 use crate::reader::{MOST_OPEN, Reader};
 use ir_arena::sequence::Sequence;
@@ -57,7 +57,7 @@ impl Reader {
 
     /// Says what is wanted next.
     #[inline(always)]
-    pub fn want(&mut self, wants: Wants) -> Result<(), ReadError>
+    pub fn want(&mut self, wants: Wants) -> Result<(), CaseError>
         ensures { Moves (λ opened list. wanting opened list wants) self.old result self.new }
     {
         self.wants = wants;
@@ -85,11 +85,11 @@ impl Reader {
     /// Opens one part more, with an empty list.
     #[inline(always)]
     #[tactic(auto, using(crate::proofs::Reading::Stack::stacks), unfolding(crate::specs::Reading::open_brace))]
-    pub fn enter(&mut self, brace: Brace) -> Result<(), ReadError>
+    pub fn enter(&mut self, brace: Brace) -> Result<(), CaseError>
         ensures { Moves (λ opened list. open_brace opened list brace) self.old result self.new }
     {
         if self.opened.len() >= MOST_OPEN {
-            return Err(ReadError::Unreadable);
+            return Err(CaseError::Unreadable);
         }
         let frame = Frame {
             kind: kind_of(self.alloc, brace),
@@ -101,7 +101,7 @@ impl Reader {
 
     /// Adds a whole statement after the others.
     #[inline(always)]
-    pub fn put(&mut self, statement: Statement) -> Result<(), ReadError>
+    pub fn put(&mut self, statement: Statement) -> Result<(), CaseError>
         ensures { Moves (λ opened list. ready opened (list ++ placed statement ∷ [])) self.old result self.new }
     {
         push(&mut self.list, statement)?;

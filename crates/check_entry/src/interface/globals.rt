@@ -17,10 +17,9 @@ use crate::globals::{
 use crate::interface::InterfaceContext;
 use bitflags::Flags;
 use check_faults::entry::EntryPointError;
-use check_faults::refused::RefusedEntry;
 use check_variables::bindings::take_binding;
 use ir_arena::handle::Handle;
-use ir_arena::tag;
+use ir_arena::{Refused, tag};
 use ir_facts::below::Below;
 use ir_flags::valid::GlobalUse;
 use ir_module::module::{GlobalVariable, ResourceBinding};
@@ -94,7 +93,7 @@ impl<'a, B: Below> InterfaceContext<'a, B> {
     }
 
     /// Each global that is used, in order.
-    fn check_each_used_global(&self) -> Result<(), RefusedEntry>
+    fn check_each_used_global(&self) -> Result<(), Refused<EntryPointError>>
         requires { HasPayloadSizes (B.meaning self.now.below.now) self.now.program.now }
         ensures { Answers (FirstOf (points_of_each (global_points (B.meaning self.now.below.now) self.now.settings.flags
             self.now.program.now self.now.entry_point.now self.now.info.now.global_uses)
@@ -115,7 +114,7 @@ impl<'a, B: Below> InterfaceContext<'a, B> {
     #[cold]
     #[inline(never)]
     #[tactic(auto, using(crate::proofs::EntrySteps::meeting))]
-    fn first_fault_of_used_globals(&self) -> Result<(), RefusedEntry>
+    fn first_fault_of_used_globals(&self) -> Result<(), Refused<EntryPointError>>
         requires { HasPayloadSizes (B.meaning self.now.below.now) self.now.program.now }
         ensures { Answers (FirstOf (within fault_of (globals_points (B.meaning self.now.below.now) self.now.settings.flags
             self.now.program.now self.now.entry_point.now self.now.info.now.global_uses))) (read_by fault_of result) }
@@ -168,7 +167,7 @@ impl<'a, B: Below> InterfaceContext<'a, B> {
     }
 
     /// The globals that are used: of immediates at most one; and then each in order.
-    pub(crate) fn check_used_globals(&self) -> Result<(), RefusedEntry>
+    pub(crate) fn check_used_globals(&self) -> Result<(), Refused<EntryPointError>>
         requires { HasPayloadSizes (B.meaning self.now.below.now) self.now.program.now }
         ensures { Answers (FirstOf (within fault_of (globals_points (B.meaning self.now.below.now) self.now.settings.flags
             self.now.program.now self.now.entry_point.now self.now.info.now.global_uses))) (read_by fault_of result) }

@@ -8,7 +8,8 @@ ghost use Rattle.ir_facts.specs.Answers.{Answers, FirstOf, read_by};
 use crate::answers::answer;
 use crate::interface::InterfaceContext;
 use crate::mesh::{check_stated, mesh_error};
-use check_faults::refused::RefusedEntry;
+use check_faults::entry::EntryPointError;
+use ir_arena::Refused;
 use ir_facts::below::Below;
 use ir_facts::proc::mesh::MeshAnalysis;
 use ir_module::module::MeshStageInfo;
@@ -17,7 +18,7 @@ impl<'a, B: Below> InterfaceContext<'a, B> {
     /// What is said of a mesh: the type of its output variable can be put out, and implies just that; and the target has
     /// meshes of points, where this is one. A fault of the lower layer keeps its places.
     #[tactic(auto, using(crate::proofs::EntrySteps::judges_within))]
-    pub(crate) fn check_said(&self, mesh: &MeshStageInfo) -> Result<(), RefusedEntry>
+    pub(crate) fn check_said(&self, mesh: &MeshStageInfo) -> Result<(), Refused<EntryPointError>>
         ensures { Answers (FirstOf (within fault_of (said_points self.now.settings.capabilities self.now.program.now
             ((B.meaning self.now.below.now).mesh_analysis self.now.program.now mesh.now.output_variable) mesh.now)))
             (read_by fault_of result) }
@@ -32,7 +33,7 @@ impl<'a, B: Below> InterfaceContext<'a, B> {
         } = analysis;
         if let Some(found) = fault {
             let error = mesh_error(*found.as_inner());
-            return Err(RefusedEntry::new(alloc, found.with_fault(error)));
+            return Err(Refused::new(alloc, found.with_fault(error)));
         }
         let capabilities = self.settings.capabilities;
         answer(

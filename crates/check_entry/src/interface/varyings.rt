@@ -16,7 +16,7 @@ ghost use Rattle.check_entry.specs.GivenInfos.{AreInfosOf};
 ghost use Rattle.check_faults.specs.declared.entry.EntryPointError.TheVariants as fault;
 ghost use Rattle.ir_facts.specs.Answers.{Answers, FirstOf, read_by};
 
-use crate::answers::{answer, refusal};
+use crate::answers::answer;
 use crate::globals::inner_at;
 use crate::interface::InterfaceContext;
 use crate::mesh::check_variable;
@@ -24,11 +24,10 @@ use crate::varyings::{
     argument_refused, check_returned, has_one_of_indices, is_struct, result_refused,
 };
 use check_faults::entry::EntryPointError;
-use check_faults::refused::RefusedEntry;
 use check_varyings::item::{check_varying_item, take_at_once};
 use check_varyings::varying::{MeshOutputType, VaryingPlace, VaryingState};
 use ir_arena::handle::Handle;
-use ir_arena::tag;
+use ir_arena::{Refused, tag};
 use ir_facts::below::Below;
 use ir_leaves::built_in::BuiltIn;
 use ir_module::functions::FunctionArgument;
@@ -52,7 +51,7 @@ impl<'a, B: Below> InterfaceContext<'a, B> {
     }
 
     /// The arguments, which are one group.
-    pub(crate) fn check_arguments(&self) -> Result<(), RefusedEntry>
+    pub(crate) fn check_arguments(&self) -> Result<(), Refused<EntryPointError>>
         requires infos { AreInfosOf self.now.program.now self.now.infos.now }
         requires types { FitsTypes self.now.program.now }
         requires signature { SignatureFits self.now.program.now self.now.entry_point.now.function }
@@ -75,7 +74,7 @@ impl<'a, B: Below> InterfaceContext<'a, B> {
         state: &mut VaryingState,
         index: u32,
         argument: &FunctionArgument,
-    ) -> Result<(), RefusedEntry>
+    ) -> Result<(), Refused<EntryPointError>>
         requires infos { AreInfosOf self.now.program.now self.now.infos.now }
         requires types { FitsTypes self.now.program.now }
         requires ty { argument.now.ty < length self.now.program.now.types }
@@ -110,7 +109,7 @@ impl<'a, B: Below> InterfaceContext<'a, B> {
         state: &mut VaryingState,
         index: u32,
         argument: &FunctionArgument,
-    ) -> Result<(), RefusedEntry>
+    ) -> Result<(), Refused<EntryPointError>>
         requires infos { AreInfosOf self.now.program.now self.now.infos.now }
         requires types { FitsTypes self.now.program.now }
         requires ty { argument.now.ty < length self.now.program.now.types }
@@ -136,7 +135,7 @@ impl<'a, B: Below> InterfaceContext<'a, B> {
     }
 
     /// The result, if there is one, which is one group; whether a position is among its parts.
-    fn check_declared(&self, state: &mut VaryingState) -> Result<(), RefusedEntry>
+    fn check_declared(&self, state: &mut VaryingState) -> Result<(), Refused<EntryPointError>>
         requires infos { AreInfosOf self.now.program.now self.now.infos.now }
         requires types { FitsTypes self.now.program.now }
         requires signature { SignatureFits self.now.program.now self.now.entry_point.now.function }
@@ -167,7 +166,7 @@ impl<'a, B: Below> InterfaceContext<'a, B> {
     }
 
     /// The result, and what the stage has to return.
-    pub(crate) fn check_result(&self) -> Result<(), RefusedEntry>
+    pub(crate) fn check_result(&self) -> Result<(), Refused<EntryPointError>>
         requires infos { AreInfosOf self.now.program.now self.now.infos.now }
         requires types { FitsTypes self.now.program.now }
         requires signature { SignatureFits self.now.program.now self.now.entry_point.now.function }
@@ -188,7 +187,7 @@ impl<'a, B: Below> InterfaceContext<'a, B> {
         state: &mut VaryingState,
         mesh_output: MeshOutputType,
         ty: Handle<tag::Type>,
-    ) -> Result<(), RefusedEntry>
+    ) -> Result<(), Refused<EntryPointError>>
         requires infos { AreInfosOf self.now.program.now self.now.infos.now }
         requires types { FitsTypes self.now.program.now }
         requires ty { ty < length self.now.program.now.types }
@@ -200,7 +199,7 @@ impl<'a, B: Below> InterfaceContext<'a, B> {
             (parts_of self.now.program.now.types self.now.infos.now ty None)) }
     {
         if !is_struct(inner_at(self.program, ty)) {
-            return Err(refusal(self.alloc, EntryPointError::InvalidMeshOutputType));
+            return Err(Refused::unplaced(self.alloc, EntryPointError::InvalidMeshOutputType));
         }
         let place = self.place_of(true, mesh_output);
         let types = &self.program.types;
@@ -216,7 +215,7 @@ impl<'a, B: Below> InterfaceContext<'a, B> {
         &self,
         state: &mut VaryingState,
         ty: Handle<tag::Type>,
-    ) -> Result<(), RefusedEntry>
+    ) -> Result<(), Refused<EntryPointError>>
         requires infos { AreInfosOf self.now.program.now self.now.infos.now }
         requires types { FitsTypes self.now.program.now }
         requires ty { ty < length self.now.program.now.types }
@@ -230,7 +229,7 @@ impl<'a, B: Below> InterfaceContext<'a, B> {
         self.check_output(state, MeshOutputType::VertexOutput, ty)?;
         if !state.has_built_in(BuiltIn::Position { invariant: false }) {
             let fault = EntryPointError::MissingVertexOutputPosition;
-            return Err(refusal(self.alloc, fault));
+            return Err(Refused::unplaced(self.alloc, fault));
         }
         Ok(())
     }
@@ -241,7 +240,7 @@ impl<'a, B: Below> InterfaceContext<'a, B> {
         &self,
         state: &mut VaryingState,
         mesh: &MeshStageInfo,
-    ) -> Result<(), RefusedEntry>
+    ) -> Result<(), Refused<EntryPointError>>
         requires infos { AreInfosOf self.now.program.now self.now.infos.now }
         requires types { FitsTypes self.now.program.now }
         requires ty { mesh.now.primitive_output_type < length self.now.program.now.types }
@@ -257,13 +256,13 @@ impl<'a, B: Below> InterfaceContext<'a, B> {
         self.check_output(state, MeshOutputType::PrimitiveOutput, ty)?;
         if !has_one_of_indices(state) {
             let fault = EntryPointError::InvalidMeshPrimitiveOutputType;
-            return Err(refusal(self.alloc, fault));
+            return Err(Refused::unplaced(self.alloc, fault));
         }
         Ok(())
     }
 
     /// The vertex output, and then the primitive output, which share locations.
-    fn check_outputs(&self, mesh: &MeshStageInfo) -> Result<(), RefusedEntry>
+    fn check_outputs(&self, mesh: &MeshStageInfo) -> Result<(), Refused<EntryPointError>>
         requires infos { AreInfosOf self.now.program.now self.now.infos.now }
         requires types { FitsTypes self.now.program.now }
         requires vertex { mesh.now.vertex_output_type < length self.now.program.now.types }
@@ -279,7 +278,7 @@ impl<'a, B: Below> InterfaceContext<'a, B> {
     }
 
     /// The mesh: its output variable, what is said of it, and its outputs.
-    pub(crate) fn check_mesh(&self) -> Result<(), RefusedEntry>
+    pub(crate) fn check_mesh(&self) -> Result<(), Refused<EntryPointError>>
         requires infos { AreInfosOf self.now.program.now self.now.infos.now }
         requires types { FitsTypes self.now.program.now }
         requires entry { FitsEntry self.now.entry_point.now self.now.program.now }

@@ -11,12 +11,12 @@ use Rattle.check_scope.specs.Context.{Context}
 use Rattle.check_flow.specs.Switch.{is_default, values_of, last_falls_through}
 use Rattle.check_scope.specs.ScopePoints.{Points, use_point}
 use Rattle.check_flow.specs.declared.switch.Rising.{Rising}
-use Rattle.check_scope.specs.ExpressionTypes.{is_integer, scalar_kind_at}
+use Rattle.check_scope.specs.ExpressionTypes.{is_integer_kind, scalar_kind_at}
 
 -- the selector
 abbrev pub selector_points : Context → Place → ℕ → Points
 selector_points context place h =
-    use_point place h ∷ (is_integer (scalar_kind_at context h), InvalidSwitchType h) ∷ []
+    use_point place h ∷ (is_integer_kind (scalar_kind_at context h), InvalidSwitchType h) ∷ []
 
 -- the cases as a whole
 abbrev pub cases_points : Cases → Points
@@ -47,9 +47,9 @@ abbrev pub StandOnce : List ℕ → Type 0
 StandOnce numbers = (n : ℕ) → count_by (λ m. n == m) numbers ≤ 1
 
 -- each of these numbers is one of others
-abbrev pub AreAmong : List ℕ → List ℕ → Type 0
-AreAmong numbers others = All (Contains others) numbers
+abbrev pub AreContained : List ℕ → List ℕ → Type 0
+AreContained numbers others = All (Contains others) numbers
 
 -- of an old list and a new one: what was put in are numbers of another list, so no others came in
 abbrev pub PutsOnly : List ℕ → List ℕ → List ℕ → Type 0
-PutsOnly numbers old new = (others : List ℕ) → AreAmong numbers others → AreAmong old others → AreAmong new others
+PutsOnly numbers old new = (others : List ℕ) → AreContained numbers others → AreContained old others → AreContained new others

@@ -20,11 +20,11 @@ unfoldable pub Holds : Bytes → List ℕ → Type 0
 Holds bytes text = bytes.is_lost ≡ false → bytes.kept.items ≡ take most text
 
 -- the line of this verdict was written
-abbrev pub TellsOf : Form → Option Id → judge.Verdict → Option Misfit → Option (List ℕ) → Option (List ℕ) → ℕ → Type 0
-TellsOf form id v misfit old new status =
+abbrev pub WritesLine : Form → Option Id → judge.Verdict → Option Misfit → Option (List ℕ) → Option (List ℕ) → ℕ → Type 0
+WritesLine form id v misfit old new status =
     (line : List ℕ) × IsLineOf form id v misfit line × Appends old new line × (status ≡ status_of v)
 
 -- the line of the verdict was written, or that there was no memory
-abbrev pub Tells : Form → Option Id → judge.Verdict → Option Misfit → Option (List ℕ) → Option (List ℕ) → ℕ → Type 0
-Tells form id v misfit old new status =
-    TellsOf form id v misfit old new status ⊎ TellsOf form None (verdicts.Refused faults.Memory) None old new status
+abbrev pub WritesLineOrMemory : Form → Option Id → judge.Verdict → Option Misfit → Option (List ℕ) → Option (List ℕ) → ℕ → Type 0
+WritesLineOrMemory form id v misfit old new status =
+    WritesLine form id v misfit old new status ⊎ WritesLine form None (verdicts.Refused faults.Memory) None old new status

@@ -11,9 +11,9 @@ use check_faults::module::ModuleFault;
 use ir_arena::span::Refusal;
 use ir_facts::below::Below;
 use ir_facts::valid::info::ModuleInfo;
-use ir_fits::fits::{fits_entry, fits_function};
+use ir_fits::{fits_entry, fits_function};
 use ir_module::module::{EntryPoint, Module};
-use naga_valid::validator::Validator;
+use naga_valid::Validator;
 use std::alloc::Global;
 
 /// Whether what an entry point names is there, where there are infos of this many functions.

@@ -11,9 +11,9 @@ use ir_arena::span::Refusal;
 use ir_arena::tag;
 use ir_facts::below::Below;
 use ir_facts::valid::info::ModuleInfo;
-use ir_fits::fits::fits_function;
+use ir_fits::fits_function;
 use ir_module::module::Module;
-use naga_valid::validator::Validator;
+use naga_valid::Validator;
 use std::alloc::Global;
 
 /// Validates the functions of a module in order, each with the infos of those before it, and adds the info of each at

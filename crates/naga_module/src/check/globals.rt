@@ -11,7 +11,7 @@ use ir_arena::handle::Handle;
 use ir_facts::below::Below;
 use ir_facts::valid::info::ModuleInfo;
 use ir_module::module::Module;
-use naga_valid::validator::Validator;
+use naga_valid::Validator;
 use std::alloc::Global;
 
 /// Validates the global variables of a module in order.

@@ -18,7 +18,7 @@ use check_entry::interface::InterfaceContext;
 use check_entry::uses::{check_payload, insert_own_uses};
 use check_entry::varyings::set_blending;
 use check_faults::entry::EntryPointError;
-use check_faults::refused::RefusedEntry;
+use ir_arena::Refused;
 use ir_arena::span::Refusal;
 use ir_errors::function::FunctionError;
 use ir_facts::below::Below;
@@ -48,7 +48,7 @@ impl<B: Below> Validator<B> {
         program: &Module,
         entry_point: &EntryPoint,
         info: &mut FunctionInfo,
-    ) -> Result<(), RefusedEntry>
+    ) -> Result<(), Refused<EntryPointError>>
         requires infos { AreInfosOf program.now self.now.types }
         requires types { FitsTypes program.now }
         requires signature { SignatureFits program.now entry_point.now.function }

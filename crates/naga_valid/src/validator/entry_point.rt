@@ -1,6 +1,7 @@
 //! The validation of an entry point.
 
-ghost use Rattle.std.specs.Prelude.{◌≡◌, true, OnOk, OnErr, IfOk, length};
+ghost use Rattle.std.specs.Prelude.{◌≡◌, true, None, Err, OnOk, OnErr, IfOk, length};
+ghost use Rattle.ir_arena.specs.Points.{first_fault};
 ghost use Rattle.ir_facts.specs.Fits.{FitsTypes, FitsFunction, FitsEntry};
 ghost use Rattle.ir_leaves.specs.declared.stage.ShaderStage.TheVariants.{Vertex};
 ghost use Rattle.naga_runs.specs.Soundness.{RunsAreSure};
@@ -11,13 +12,13 @@ ghost use Rattle.check_laws.specs.Chains.{AreVetted, ChainsKeepTo};
 ghost use Rattle.check_laws.specs.BodyShapes.{HasNoReturnInContinuing, HasWholeSwitches};
 ghost use Rattle.check_scope.specs.Context.{pre_emitted_of};
 ghost use Rattle.check_entry.specs.InterfacePoints.{HasPayloadSizes};
-ghost use Rattle.check_laws.specs.EntryJudgement.{entry_judgement, AnswersAfter};
+ghost use Rattle.check_laws.specs.EntryJudgement.{entry_judgement};
 ghost use Rattle.check_laws.specs.EntryFacts.{argument_parts, BindingsAreDistinct, BuiltInsAreDistinct, GroupsAreDistinct, ReturnsPosition};
 ghost use Rattle.check_entry.specs.Start.{start_points};
 ghost use Rattle.check_entry.specs.EntryUses.{only};
 ghost use Rattle.check_entry.specs.GivenInfos.{AreInfosOf};
 ghost use Rattle.ir_facts.specs.WhatIsChecked.{checks_blocks, checks_expressions};
-ghost use Rattle.ir_facts.specs.Answers.{read_by};
+ghost use Rattle.ir_facts.specs.Answers.{Answers, Exactly, read_by};
 ghost use Rattle.check_statement.specs.FunctionJudgement.{outcome_of};
 ghost use Rattle.check_entry.specs.EntryFaults.{fault_of};
 
@@ -59,10 +60,12 @@ impl<B: Below> Validator<B> {
         requires entry { FitsEntry ep.now «module».now }
         requires sizes { HasPayloadSizes (B.meaning self.old.below) «module».now }
 
-        // The answer is the judgement's; or out of memory, and nothing before the function is wrong.
-        ensures judged { AnswersAfter (start_points self.old.settings.capabilities ep.now)
-            (entry_judgement (B.meaning self.old.below) self.old.settings self.old.types self.old.trace «module».now
-            mod_info.now ep.now) (read_by fault_of (outcome_of self.new.trace result)) }
+        // The answer is the judgement's, or out of memory.
+        ensures judged { Answers (Exactly (entry_judgement (B.meaning self.old.below) self.old.settings self.old.types
+            self.old.trace «module».now mod_info.now ep.now)) (read_by fault_of (outcome_of self.new.trace result)) }
+
+        // Where it is out of memory, nothing before the function is wrong.
+        ensures memory { result ≡ Err Refusal.Memory → first_fault (start_points self.old.settings.capabilities ep.now) ≡ None }
 
         // With BLOCKS all runs of an accepted body are sound: what every run has emitted is live, what is used is
         // live, no live handle is emitted, and jumps have targets.

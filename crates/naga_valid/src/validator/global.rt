@@ -1,11 +1,10 @@
 //! The validation of a global variable.
 
 ghost use Rattle.std.specs.Prelude.{◌≡◌, Contains, length};
-ghost use Rattle.std.specs.Result.{result_err};
 ghost use Rattle.ir_facts.specs.Fits.{FitsTypes, FitsGlobals};
-ghost use Rattle.ir_arena.specs.Points.{first_fault};
 ghost use Rattle.check_entry.specs.GlobalPoints.{module_global_points};
 ghost use Rattle.check_entry.specs.GivenInfos.{AreInfosOf};
+ghost use Rattle.ir_facts.specs.Answers.{Finds, FirstOf};
 
 use crate::validator::Validator;
 use check_variables::global::check_global;
@@ -34,9 +33,8 @@ impl<B: Below> Validator<B> {
         requires globals { FitsGlobals «module».now mod_info.now }
         requires var { Contains «module».now.global_variables var.now }
         requires one_kind_each { length kinds.now ≡ length «module».now.global_expressions }
-        ensures { result_err result
-            ≡ first_fault (module_global_points (B.meaning self.now.below) self.now.settings self.now.types «module».now
-            mod_info.now kinds.now var.now) }
+        ensures { Finds (FirstOf (module_global_points (B.meaning self.now.below) self.now.settings self.now.types «module».now
+            mod_info.now kinds.now var.now)) result }
     {
         let Settings {
             flags,

@@ -24,7 +24,17 @@ impl<B: Below> Validator<B> {
         ensures { IsTrue result ↔ (global.now.space ≡ space.TaskPayload →
             IsSome ((B.meaning self.now.below).size_of «module».now global.now.ty)) }
     {
-        !matches!(global.space, AddressSpace::TaskPayload)
-            || self.below.type_size(module, global.ty).is_some()
+        match global.space {
+            AddressSpace::TaskPayload => self.below.type_size(module, global.ty).is_some(),
+            AddressSpace::Function
+            | AddressSpace::Private
+            | AddressSpace::WorkGroup
+            | AddressSpace::Uniform
+            | AddressSpace::Storage { .. }
+            | AddressSpace::Handle
+            | AddressSpace::Immediate
+            | AddressSpace::RayPayload
+            | AddressSpace::IncomingRayPayload => true,
+        }
     }
 }

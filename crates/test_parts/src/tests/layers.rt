@@ -9,7 +9,7 @@ use ir_module::module::drop_module;
 use ir_module::{Expression, Literal, Module};
 use ir_statements::Operands;
 use ir_types::{ArraySize, Type, TypeInner, UniqueArena};
-use naga_layers::plain::Plain;
+use naga_layers::Plain;
 use std::num::NonZeroU32;
 use std::process::Abort;
 

@@ -10,7 +10,7 @@ use ir_module::module::drop_module;
 use ir_types::{
     AddressSpace, ArraySize, Disalignment, ImageClass, Type, TypeInfo, TypeInner, UniqueArena,
 };
-use layer_types::type_infos;
+use layer_types::infos_of_types;
 use std::alloc::Global;
 use std::num::NonZeroU32;
 use std::process::Abort;
@@ -163,7 +163,7 @@ fn expect_infos(rt: &impl Abort, infos: &[TypeInfo]) {
 #[test]
 fn types_that_nothing_holds(rt: HostRuntime) {
     let module = module_of(rt.alloc(), types_of_rows(&rt));
-    let infos = made(&rt, type_infos(rt.alloc(), &module.types));
+    let infos = made(&rt, infos_of_types(rt.alloc(), &module.types));
     drop_module(module);
     expect_infos(&rt, infos.as_slice());
     drop(infos);
@@ -203,7 +203,7 @@ fn expect_last(rt: &impl Abort, infos: &[TypeInfo]) {
 #[test]
 fn types_that_name_each_other_deep(rt: HostRuntime) {
     let module = module_of(rt.alloc(), tower(&rt, 100000));
-    let infos = made(&rt, type_infos(rt.alloc(), &module.types));
+    let infos = made(&rt, infos_of_types(rt.alloc(), &module.types));
     drop_module(module);
     expect_last(&rt, infos.as_slice());
     drop(infos);

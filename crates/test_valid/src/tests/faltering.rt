@@ -5,7 +5,7 @@ use naga_below::{
     FunctionInfo, Handle, Module, ModuleInfo, Refusal, Settings, ShaderStages, ValidationFlags,
     tag,
 };
-use naga_layers::plain::Plain;
+use naga_layers::Plain;
 use naga_rules::{Below, FunctionError, MeshAnalysis};
 use std::alloc::{AllocError, Global};
 use std::cell::Cell;

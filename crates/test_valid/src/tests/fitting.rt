@@ -11,12 +11,11 @@ use naga_below::{
     AddressSpace, Arena, Disalignment, EntryPoint, Handle, Module, TypeInfo, TypeResolution,
     fits_entry, fits_function, fits_globals, fits_types,
 };
-use naga_module::check::Given;
 use naga_module::{
-    EntryField, Facts, HandleOf, Misfit, Owner, Place, Problem, Shortage, VariableField,
+    EntryField, Facts, Given, HandleOf, Misfit, Owner, Place, Problem, Shortage, VariableField,
     find_misfit, find_short_fact,
 };
-use naga_valid::validator::Validator;
+use naga_valid::Validator;
 use std::process::Abort;
 
 /// The largest number of 32 bits.

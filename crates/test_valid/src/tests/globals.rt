@@ -8,9 +8,9 @@ use naga_below::{
     AddressSpace, Expression, ExpressionKindTracker, GlobalVariable, Handle, Literal, Module,
     ModuleInfo, Scalar, Sequence, TypeResolution, fits_globals, fits_types,
 };
-use naga_layers::plain::Plain;
+use naga_layers::Plain;
 use naga_rules::{Below, GlobalVariableError};
-use naga_valid::validator::Validator;
+use naga_valid::Validator;
 use std::alloc::{AllocError, Global};
 use std::process::Abort;
 

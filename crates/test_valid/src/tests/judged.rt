@@ -7,11 +7,10 @@ use naga_below::{
     EntryPoint, Function, FunctionInfo, Handle, Module, ModuleInfo, Refusal, Sequence, fits_entry,
     fits_function, fits_types,
 };
-use naga_layers::plain::Plain;
+use naga_layers::Plain;
 use naga_module::{Given, ModuleFault, Subject, check_module, write_module_fault, write_refusal};
 use naga_rules::{Below, Explain, MeshAnalysis};
-use naga_valid::TraceState;
-use naga_valid::validator::Validator;
+use naga_valid::{TraceState, Validator};
 use std::process::Abort;
 
 /// Accepted, out of memory, or refused with what is reported of it.

@@ -8,9 +8,8 @@ use crate::tests::rows::{
     FORBIDDEN, NOTHING, REFUSED_TRACING, Row, TRACING, WITH_BARRIER, left_by, rows,
 };
 use naga_below::{ShaderStages, SubgroupOperationSet, TypeInfo};
-use naga_layers::plain::Plain;
-use naga_valid::TraceState;
-use naga_valid::validator::Validator;
+use naga_layers::Plain;
+use naga_valid::{TraceState, Validator};
 use std::process::Abort;
 
 /// A fresh validator gives these rows their own answers, one after the other, and ray traces leave this each time.

@@ -1,6 +1,6 @@
 use Rattle.std.proofs.Common.{◌≡◌, sym, ap, ◌∙◌, arith, Err}
 use Rattle.std.proofs.lemmas.Result.{err_from_is_err_and}
-use Rattle.case_notation.specs.declared.case.ReadError.TheVariants.{Unreadable}
+use Rattle.case_notation.specs.declared.case.CaseError.TheVariants.{Unreadable}
 use Rattle.case_notation.proofs.Reading.Sayable.{read_is_sayable}
 use Rattle.case_notation.proofs.Reading.Whole.{no_options, no_body, case_found}
 use Rattle.case_notation.proofs.case.read_case.Goals as goal

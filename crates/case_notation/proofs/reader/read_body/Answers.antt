@@ -1,6 +1,6 @@
 use Rattle.std.proofs.Common.{◌≡◌}
 use Rattle.std.proofs.lemmas.Result.{err_from_is_err_and}
-use Rattle.case_notation.specs.declared.case.ReadError.TheVariants.{Unreadable}
+use Rattle.case_notation.specs.declared.case.CaseError.TheVariants.{Unreadable}
 use Rattle.case_notation.proofs.Reading.Fed.{fed_more, fed_unlike, fed_refused, fed_whole, fed_no_body}
 use Rattle.case_notation.proofs.Reading.Made.{body_said, body_shown, body_made, body_none}
 use Rattle.case_notation.proofs.reader.read_body.Goals as goal

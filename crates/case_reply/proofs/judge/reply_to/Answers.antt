@@ -1,6 +1,6 @@
 use Rattle.std.proofs.Common.{◌≡◌, Err, ap}
 use Rattle.case_notation.specs.Case.{case_of}
-use Rattle.case_notation.specs.declared.case.ReadError.TheVariants.{Unreadable}
+use Rattle.case_notation.specs.declared.case.CaseError.TheVariants.{Unreadable}
 use Rattle.case_reply.proofs.Cases.{replies_none, replies_accepted, replies_fault}
 use Rattle.case_reply.proofs.judge.reply_to.Goals as goal
 

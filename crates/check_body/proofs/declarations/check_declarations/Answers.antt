@@ -4,7 +4,7 @@ use Rattle.ir_arena.specs.Points.{points_of_each}
 use Rattle.check_statement.specs.Declarations.{variable_points, argument_points, result_points}
 use Rattle.check_scope.specs.walk.SeenContext.{context_of}
 use Rattle.check_body.proofs.Each.{third_decides}
-use Rattle.check_scope.proofs.Refusals.{refuses_first, refuses_second}
+use Rattle.ir_facts.proofs.Refusals.{refuses_first, refuses_second}
 use Rattle.check_body.proofs.declarations.check_declarations.Goals as goal
 
 pub returns-in_err-check_locals : goal.returns-in_err-check_locals

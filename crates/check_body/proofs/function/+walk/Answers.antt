@@ -18,7 +18,7 @@ use Rattle.naga_runs.specs.Must.{body_holds_continue, cases_hold_continue}
 use Rattle.check_body.proofs.LoopBody.{PutsOfLoop, at_first, one_more, undivided, divided, may_part, last_parted}
 use Rattle.check_body.proofs.Tables.{entered_table, divided_table, left_table, skipped_table}
 use Rattle.check_statement.proofs.Parts.{in_block, in_branch, in_switch, in_lists, in_list, in_cases, in_result}
-use Rattle.check_scope.proofs.Refusals.{next_is, passes, stops_first, stops_next, answers_next}
+use Rattle.ir_facts.proofs.Refusals.{next_is, passes, stops_first, stops_next, answers_next}
 use Rattle.check_body.proofs.Walk.{holds_turn, rest_turn, rest_end, cases_hold_turn, leaving_err, whole_parts, whole_holds, or_assoc, own_passes, own_refuses, parts_later, parts_branch, parts_switch, stmt_more, body_turn, puts_turn, body_end, puts_end, cases_turn, cases_end}
 use Rattle.check_body.proofs.function.+walk.Goals as goal
 

@@ -9,5 +9,5 @@ use Rattle.check_entry.proofs.varyings.argument_refused.Goals as goal
 pub returns-in-Fault : goal.returns-in-Fault
 returns-in-Fault c = λ points h.
     let found : first_fault points ≡ Some (varying_fault_of c.in-Fault.fault) = rw c.in-Fault.is at h in
-    refuses_as (fault.Argument c.args.index c.into_inner.result) c.refusal.result (within (OfArgument c.args.index) points) c.refusal.ensures
+    refuses_as (fault.Argument c.args.index c.into_inner.result) c.unplaced.result (within (OfArgument c.args.index) points) c.unplaced.ensures
     (argument_fault c.args.index points c.in-Fault.fault found ∙ ap (λ e. Some (fault_of (fault.Argument c.args.index e))) (sym c.into_inner.ensures))

@@ -6,7 +6,7 @@ use Rattle.check_flow.specs.walk.SwitchParts.{selector_points, cases_points}
 use Rattle.check_flow.specs.Switch.{value_points, values_of}
 use Rattle.check_scope.specs.walk.Place.{place_at}
 use Rattle.check_scope.specs.walk.Table.{known}
-use Rattle.check_scope.proofs.Refusals.{refuses_first, refuses_second}
+use Rattle.ir_facts.proofs.Refusals.{refuses_first, refuses_second}
 use Rattle.check_flow.proofs.switch.check_switch.Goals as goal
 
 pub returns-in_err-answer : goal.returns-in_err-answer

@@ -3,7 +3,7 @@ use Rattle.check_memory.specs.walk.AtomicParts.{compared_points, exchanged_point
 use Rattle.check_scope.specs.walk.Place.{place_at}
 use Rattle.check_scope.specs.walk.SeenContext.{context_of}
 use Rattle.check_scope.specs.walk.Table.{known}
-use Rattle.check_scope.proofs.Refusals.{fault_first, fault_second}
+use Rattle.ir_facts.proofs.Refusals.{fault_first, fault_second}
 use Rattle.check_memory.proofs.atomic.check_atomic_result.Goals as goal
 
 pub returns-in_err-check_compared-in-Exchange-Some : goal.returns-in_err-check_compared-in-Exchange-Some

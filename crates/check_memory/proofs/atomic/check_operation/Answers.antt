@@ -4,7 +4,7 @@ use Rattle.check_memory.specs.Atomic.{scalar_points, atomic_result_points}
 use Rattle.check_scope.specs.walk.Place.{place_at}
 use Rattle.check_scope.specs.walk.SeenContext.{context_of}
 use Rattle.check_scope.specs.walk.Table.{filled_in, known}
-use Rattle.check_scope.proofs.Refusals.{fault_first, fault_second}
+use Rattle.ir_facts.proofs.Refusals.{fault_first, fault_second}
 use Rattle.check_memory.proofs.atomic.check_operation.Goals as goal
 
 pub returns-in_err-check_scalar : goal.returns-in_err-check_scalar

@@ -4,7 +4,7 @@ use Rattle.check_resources.specs.ImageAtomic.{format_points}
 use Rattle.check_scope.specs.walk.Place.{place_at}
 use Rattle.check_scope.specs.walk.SeenContext.{context_of}
 use Rattle.check_scope.specs.walk.Table.{known}
-use Rattle.check_scope.proofs.Refusals.{fault_first, fault_second}
+use Rattle.ir_facts.proofs.Refusals.{fault_first, fault_second}
 use Rattle.check_resources.proofs.image_atomic.check_changed.Goals as goal
 
 pub returns-in_err-check_format : goal.returns-in_err-check_format

@@ -4,7 +4,7 @@ use Rattle.ir_arena.specs.Points.{first_fault}
 use Rattle.check_resources.specs.Image.{stored_format}
 use Rattle.check_resources.specs.ImageStore.{stored_shape, image_store_points}
 use Rattle.check_resources.specs.walk.ImageParts.{stored_texel_points, texel_value_points}
-use Rattle.check_scope.proofs.Refusals.{fault_first, fault_second}
+use Rattle.ir_facts.proofs.Refusals.{fault_first, fault_second}
 use Rattle.check_scope.specs.walk.Place.{place_at}
 use Rattle.check_scope.specs.walk.SeenContext.{context_of}
 use Rattle.check_scope.specs.walk.Table.{known}

@@ -8,7 +8,7 @@ use Rattle.ir_statements.proofs.Rows.{body_of-list, tree_of-switch}
 use Rattle.ir_misfits.specs.declared.misfit.HandleOf.TheVariants.{Expressions}
 use Rattle.ir_misfits.specs.declared.misfit.Place.TheVariants.{InStatement}
 use Rattle.ir_misfits.specs.declared.misfit.StatementField.TheVariants.{Selector}
-use Rattle.ir_misfits.specs.Points.{named}
+use Rattle.ir_misfits.specs.MisfitPoints.{named}
 use Rattle.ir_misfits.specs.OfBodies.{next, after_statement, after_body, after_cases, statement_points, body_points, cases_points}
 use Rattle.ir_misfits.proofs.Walks.{goes_on, list_stops, list_passes, list_after, cases_stop, cases_pass, cases_after}
 use Rattle.ir_misfits.proofs.body.+check.Goals as goal

@@ -4,7 +4,7 @@ use Rattle.ir_arena.specs.Points.{points_of_each}
 use Rattle.ir_misfits.specs.declared.misfit.HandleOf.TheVariants.{Functions}
 use Rattle.ir_misfits.specs.declared.misfit.Place.TheVariants.{InStatement}
 use Rattle.ir_misfits.specs.declared.misfit.StatementField.TheVariants as field
-use Rattle.ir_misfits.specs.Points.{named}
+use Rattle.ir_misfits.specs.MisfitPoints.{named}
 use Rattle.ir_misfits.specs.OfSignatures.{callee_points}
 use Rattle.ir_misfits.specs.OfBodies.{call_argument_points, names_if}
 use Rattle.ir_misfits.proofs.Walks.{goes_on, passes_in, stops_in}

@@ -9,7 +9,8 @@ pub returns : goal.returns
 returns c =
     let spans = c.in_ok-write_verdict.ensures.0 in
     let place = c.in_ok-write_verdict.ensures.1 in
-    let value = json_tokens (maybe_with_id c.args.examined.now.id (verdict_form spans place c.args.examined.now.misfit c.args.examined.now.verdict)) in (
+    let value = json_tokens (maybe_with_id c.args.examined.now.id
+    (verdict_form spans place c.args.examined.now.misfit c.args.examined.now.verdict)) in (
       spans,
       place,
       c.into_text.ensures ∙ ap print (c.in_ok-write_verdict.ensures.2 ∙ ap (λ l. l ++ value) c.new-out.ensures),

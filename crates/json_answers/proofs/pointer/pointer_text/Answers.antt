@@ -11,8 +11,10 @@ loop-left-preserved c =
     let some = c.loop-left-test.true in
     let within = c.loop-left.invariant.within in
     let here : left - 1 + 1 ≡ left = omega (arith, some) in
-    let before : string_bytes c.loop-left.text ++ pointer_text (take (left - 1 + 1) steps) ≡ pointer_text steps = rw here c.loop-left.invariant.text in
+    let before : string_bytes c.loop-left.text ++ pointer_text (take (left - 1 + 1) steps) ≡ pointer_text steps =
+    rw here c.loop-left.invariant.text in
     record {
       within = omega (arith, within);
-      text = pointer_on (string_bytes c.loop-left.text) _ _ steps (left - 1) _ (omega (arith, some, within)) c.in_ok-push_step.ensures before;
+      text = pointer_on (string_bytes c.loop-left.text) _ _ steps (left - 1) _ (omega (arith, some, within))
+          c.in_ok-push_step.ensures before;
     }

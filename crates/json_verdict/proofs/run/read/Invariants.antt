@@ -5,4 +5,5 @@ use Rattle.json_verdict.proofs.run.read.Given as goal
 
 abbrev pub invariant-reads : goal.invariant-reads
 invariant-reads g l =
-    (0 < length l.chunk) × (input : List ℕ) × Consumes (g.R.Read.remaining l.fn.reader) (g.R.Read.remaining l.reader) input × Holds l.bytes input
+    (0 < length l.chunk) × (input : List ℕ) × Consumes (g.R.Read.remaining l.fn.reader) (g.R.Read.remaining l.reader) input
+    × Holds l.bytes input

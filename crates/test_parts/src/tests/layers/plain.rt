@@ -17,7 +17,7 @@ use ir_leaves::{Scalar, VectorSize};
 use ir_module::module::drop_module;
 use ir_module::{Expression, Function, GlobalVariable, Module};
 use ir_types::{AddressSpace, TypeInner, TypeResolution};
-use naga_layers::plain::Plain;
+use naga_layers::Plain;
 use std::alloc::{AllocError, Global};
 use std::process::Abort;
 

@@ -13,8 +13,7 @@ use ir_leaves::Scalar;
 use ir_module::module::drop_module;
 use ir_module::{Function, MeshOutputTopology, MeshStageInfo, Module};
 use ir_types::TypeInner;
-use naga_layers::recorded::Recorded;
-use naga_layers::{Facts, FunctionFact, LowerFunctionError, MeshAnalysisFact};
+use naga_layers::{Facts, FunctionFact, LowerFunctionError, MeshAnalysisFact, Recorded};
 use std::alloc::Global;
 use std::process::Abort;
 

@@ -41,7 +41,7 @@ returns-then-not-has_one_of_indices g c =
     let none = subst (λ points. first_fault points ≡ None) by c.in_ok-check_output.ensures.fault in
     let same = sym (c.has_one_of_indices.ensures ∙ indices_by_position types infos settings ep vertex ty (seen_in c.args.state.now) (seen_in c.check_output.new.state) c.requires.seen c.in_ok-check_output.ensures.seen) in
     let no : c.has_one_of_indices.result ≡ false = search rules in
-    refuses_as fault.InvalidMeshPrimitiveOutputType c.refusal.result (out ++ ((has_one_of_indices parts, Other fault.InvalidMeshPrimitiveOutputType) ∷ [])) c.refusal.ensures
+    refuses_as fault.InvalidMeshPrimitiveOutputType c.unplaced.result (out ++ ((has_one_of_indices parts, Other fault.InvalidMeshPrimitiveOutputType) ∷ [])) c.unplaced.ensures
     (last_fails out (has_one_of_indices parts) (Other fault.InvalidMeshPrimitiveOutputType) none (same ∙ no))
 
 pub returns : goal.returns

@@ -41,7 +41,7 @@ returns-then-not-has_built_in-clause-fault g c =
     let none = subst (λ points. first_fault points ≡ None) by c.in_ok-check_output.ensures.fault in
     let same = sym (c.has_built_in.ensures ∙ ap (λ (s : Seen). s.built_ins (Position false)) (c.in_ok-check_output.ensures.seen ∙ ap (λ (s : Seen). seen_with s parts) c.requires.seen)) in
     let no : c.has_built_in.result ≡ false = search rules in
-    refuses_as fault.MissingVertexOutputPosition c.refusal.result (out ++ ((has_built_in (Position false) parts, Other fault.MissingVertexOutputPosition) ∷ [])) c.refusal.ensures
+    refuses_as fault.MissingVertexOutputPosition c.unplaced.result (out ++ ((has_built_in (Position false) parts, Other fault.MissingVertexOutputPosition) ∷ [])) c.unplaced.ensures
     (last_fails out (has_built_in (Position false) parts) (Other fault.MissingVertexOutputPosition) none (same ∙ no))
 
 pub returns-clause-fault : goal.returns-clause-fault

@@ -1,6 +1,6 @@
 use Rattle.std.proofs.Common.{◌≡◌, ◌<◌, ℕ, List, Option, Some, length, refl, slice_get, ap, subst, arith}
 use Rattle.std.proofs.lemmas.Option.{slice_get_read}
-use Rattle.ir_arena.specs.Positions.{IsLastBefore}
+use Rattle.ir_arena.specs.LastPlaces.{IsLastBefore}
 use Rattle.ir_arena.proofs.positions.Positions.before.Goals as goal
 
 pub returns : goal.returns

@@ -1,6 +1,6 @@
 use Rattle.std.proofs.Common.{◌≡◌, ℕ, List, Option, length, nat_eq, sym, ◌∙◌, subst}
 use Rattle.std.specs.HashMap.{get}
-use Rattle.ir_arena.specs.Positions.{IsLastBefore}
+use Rattle.ir_arena.specs.LastPlaces.{IsLastBefore}
 use Rattle.ir_arena.proofs.positions.Positions.last.Goals as goal
 
 pub returns : goal.returns

@@ -2,7 +2,7 @@ use Rattle.std.proofs.Common.{◌≡◌, ◌++◌, ◌∷◌, [], ℕ, List, Opt
 use Rattle.std.specs.HashMap.{get}
 use Rattle.std.specs.Map.{lookup}
 use Rattle.std.proofs.lemmas.List.{take_at}
-use Rattle.ir_arena.specs.Positions.{AreLinked, IsLastBefore}
+use Rattle.ir_arena.specs.LastPlaces.{AreLinked, IsLastBefore}
 use Rattle.ir_arena.proofs.Links.{linked_push}
 use Rattle.ir_arena.proofs.positions.Positions.push.Goals as goal
 

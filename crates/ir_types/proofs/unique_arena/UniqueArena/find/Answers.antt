@@ -1,7 +1,7 @@
 use Rattle.std.proofs.Common.{◌≡◌, ◌<◌, true≢false, length, map, Some, slice_get, refl, sym, ap, ◌∙◌, subst, rules, arith}
 use Rattle.std.proofs.lemmas.List.{length-map}
 use Rattle.std.proofs.lemmas.Option.{slice_get_read, same_Some}
-use Rattle.ir_arena.specs.Positions.{past, IsLastBefore}
+use Rattle.ir_arena.specs.LastPlaces.{past, IsLastBefore}
 use Rattle.ir_types.specs.Unique.{hash_of}
 use Rattle.ir_types.proofs.Unique.{begins, comes_down, goes_on, place_of}
 use Rattle.ir_types.proofs.unique_arena.UniqueArena.find.Goals as goal

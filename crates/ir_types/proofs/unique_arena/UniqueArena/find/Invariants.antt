@@ -1,4 +1,4 @@
-use Rattle.ir_arena.specs.Positions.{past}
+use Rattle.ir_arena.specs.LastPlaces.{past}
 use Rattle.ir_types.specs.Unique.{hash_of}
 use Rattle.ir_types.proofs.Unique.{IsAhead}
 use Rattle.ir_types.proofs.unique_arena.UniqueArena.find.Given as goal

@@ -6,4 +6,5 @@ use Rattle.json_answers.proofs.line.FunctionsToJson.write_json.Given as goal
 
 abbrev pub invariant-loop-function : goal.invariant-loop-function
 invariant-loop-function l =
-    l.out ++ items_tokens (each function_form (drop l.function-index l.function-items)) ≡ l.initial.out ++ items_tokens (each function_form l.function-items)
+    l.out ++ items_tokens (each function_form (drop l.function-index l.function-items))
+    ≡ l.initial.out ++ items_tokens (each function_form l.function-items)

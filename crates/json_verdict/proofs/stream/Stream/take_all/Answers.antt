@@ -13,5 +13,6 @@ lines-preserved g c =
       λ input start f.
           let taken = c.take.ensures (input ++ seen) start _ (follows input start f) in
           let ended = c.in_ok-end_line.ensures ((input ++ seen) ++ line) start taken in
-          subst (λ l. Follows c.end_line.new.self l start (g.W.Write.contents c.end_line.new.writer)) (line_seen input seen line) ended,
+          subst (λ l. Follows c.end_line.new.self l start (g.W.Write.contents c.end_line.new.writer))
+          (line_seen input seen line) ended,
     )

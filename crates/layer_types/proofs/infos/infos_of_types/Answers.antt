@@ -2,7 +2,7 @@ use Rattle.std.proofs.Common.{◌≡◌, length, sym, ◌∙◌, rules}
 use Rattle.std.proofs.lemmas.List.{length-append}
 use Rattle.layer_types.specs.ComputedInfos.{info_of}
 use Rattle.layer_types.proofs.InfosFrom.{next_info}
-use Rattle.layer_types.proofs.infos.type_infos.Goals as goal
+use Rattle.layer_types.proofs.infos.infos_of_types.Goals as goal
 
 pub loop-index-preserved : goal.loop-index-preserved
 loop-index-preserved c =

@@ -7,15 +7,15 @@ use Rattle.ir_misfits.specs.declared.misfit.Problem.TheVariants as problem
 use Rattle.ir_misfits.specs.declared.misfit.Misfit.{Misfit}
 
 -- the points of something
-abbrev pub Points : Type 0
-Points = List (Point Misfit)
+abbrev pub MisfitPoints : Type 0
+MisfitPoints = List (Point Misfit)
 
 -- a handle of such a list stands at this place, and lies below n
 abbrev pub named : Place → HandleOf → ℕ → ℕ → Point Misfit
 named place of n h = (nat_lt h n, record { place = place; problem = problem.Handle of h n })
 
 -- the same of a handle that may be left out
-abbrev pub named_if : Place → HandleOf → ℕ → Option ℕ → Points
+abbrev pub named_if : Place → HandleOf → ℕ → Option ℕ → MisfitPoints
 named_if place of n None = []
 named_if place of n (Some h) = named place of n h ∷ []
 

@@ -1,34 +1,34 @@
-//! Refusals on their way through the walk.
+//! Refusals on their way through the steps of a check.
 
-use ir_arena::span::{Refusal, Span, WithSpan};
-use ir_errors::function::FunctionError;
+use crate::span::{Refusal, Span, WithSpan};
 use std::alloc::{AllocError, AllocFailed, Global};
 use std::marker::Model;
 
-/// A refusal of a body. The fault lies on the heap, so that what each step of the walk answers is small.
+/// A refusal on its way through the steps of a check. The fault lies on the heap, so that what each step answers is small.
 #[derive(Drop)]
-pub struct Refused {
+pub struct Refused<E> {
     // none if it is out of memory
-    fault: Option<Box<WithSpan<FunctionError>>>,
+    fault: Option<Box<WithSpan<E>>>,
 }
 
-impl Model for Refused {
+impl<E> Model for Refused<E> {
     ghost use Rattle.ir_arena.specs.declared.span.Refusal.{Refusal};
-    ghost use Rattle.ir_errors.specs.declared.function.FunctionError.{FunctionError};
 
-    ghost Value = { Refusal FunctionError };
+    ghost Value = { Refusal E };
 
-    ghost use Rattle.check_scope.specs.walk.Refused.{refusal_in};
+    ghost use Rattle.ir_arena.specs.Refusals.{refusal_in};
 
     ghost view = { λ r. refusal_in r.fault };
 }
 
-impl Refused {
+impl<E: Drop> Refused<E> {
     ghost use Rattle.std.specs.Prelude.{◌≡◌};
-    ghost use Rattle.check_scope.specs.walk.Findings.{IsRefusalFor};
+    ghost use Rattle.ir_arena.specs.Refusals.{IsRefusalFor};
 
     /// For a fault, which has its places.
-    fn new(alloc: Global, fault: WithSpan<FunctionError>) -> Refused
+    #[cold]
+    #[inline(never)]
+    pub fn new(alloc: Global, fault: WithSpan<E>) -> Refused<E>
         ensures { IsRefusalFor fault result }
     {
         match Box::new(alloc, fault) {
@@ -37,10 +37,10 @@ impl Refused {
         }
     }
 
-    /// For a fault of the statement at a place.
+    /// For a fault at a place.
     #[cold]
     #[inline(never)]
-    pub fn placed(alloc: Global, fault: FunctionError, span: Span) -> Refused
+    pub fn placed(alloc: Global, fault: E, span: Span) -> Refused<E>
         ensures { IsRefusalFor fault result }
     {
         match WithSpan::new(alloc, fault).with_span(span) {
@@ -49,17 +49,17 @@ impl Refused {
         }
     }
 
-    /// For a fault of the function as a whole.
+    /// For a fault without a place.
     #[cold]
     #[inline(never)]
-    pub fn of_function(alloc: Global, fault: FunctionError) -> Refused
+    pub fn unplaced(alloc: Global, fault: E) -> Refused<E>
         ensures { IsRefusalFor fault result }
     {
         Refused::new(alloc, WithSpan::new(alloc, fault))
     }
 
     /// The refusal.
-    pub fn into_refusal(self) -> Refusal<FunctionError>
+    pub fn into_refusal(self) -> Refusal<E>
         ensures { result ≡ self }
     {
         let Refused { fault } = self;
@@ -70,24 +70,24 @@ impl Refused {
     }
 }
 
-impl From<AllocError> for Refused {
+impl<E> From<AllocError> for Refused<E> {
     ghost use Rattle.std.specs.Prelude.{◌≡◌};
     ghost use Rattle.ir_arena.specs.declared.span.Refusal.TheVariants.{Memory};
 
     ghost from_gives = { λ _ e. e ≡ Memory };
 
-    fn from(_e: AllocError) -> Refused {
+    fn from(_e: AllocError) -> Refused<E> {
         Refused { fault: None }
     }
 }
 
-impl<T: Drop> From<AllocFailed<T>> for Refused {
+impl<E, T: Drop> From<AllocFailed<T>> for Refused<E> {
     ghost use Rattle.std.specs.Prelude.{◌≡◌};
     ghost use Rattle.ir_arena.specs.declared.span.Refusal.TheVariants.{Memory};
 
     ghost from_gives = { λ _ e. e ≡ Memory };
 
-    fn from(_e: AllocFailed<T>) -> Refused {
+    fn from(_e: AllocFailed<T>) -> Refused<E> {
         Refused { fault: None }
     }
 }

@@ -22,9 +22,9 @@ pub struct Inside {
     pub part: Part,
 }
 
-/// A statement of a body. Its number is its place in the list that [`nodes_of`] makes.
+/// A statement of a body. Its number is its place in the list that [`statements_of`] makes.
 #[derive(Clone, Copy)]
-pub struct Node<'a> {
+pub struct ListedStatement<'a> {
     pub located: &'a Located,
     /// The part whose list it stands in. None in the list of the body itself.
     pub inside: Option<Inside>,
@@ -51,55 +51,58 @@ impl Position {
 }
 
 /// The statements of a body in the order of visits: each before those that it holds. An Err is out of memory.
-pub fn nodes_of<'a>(alloc: Global, body: &'a Block) -> Result<Vec<Node<'a>>, AllocError> {
-    let mut nodes = Vec::new(alloc);
-    add_block(&mut nodes, None, 0, body)?;
-    Ok(nodes)
+pub fn statements_of<'a>(
+    alloc: Global,
+    body: &'a Block,
+) -> Result<Vec<ListedStatement<'a>>, AllocError> {
+    let mut listed = Vec::new(alloc);
+    add_block(&mut listed, None, 0, body)?;
+    Ok(listed)
 }
 
 /// Adds the statements of a list, which so many statements hold.
-#[cycle(nodes)]
+#[cycle(listed)]
 fn add_block<'a>(
-    nodes: &mut Vec<Node<'a>>,
+    listed: &mut Vec<ListedStatement<'a>>,
     inside: Option<Inside>,
     depth: usize,
     block: &'a Block,
 ) -> Result<(), AllocError> {
     for (index, located) in block.list.as_slice().iter().enumerate() {
-        let number = nodes.len();
-        nodes.push(Node {
+        let number = listed.len();
+        listed.push(ListedStatement {
             located,
             inside,
             index,
             depth,
         })?;
-        add_parts(nodes, number, depth.saturating_add(1), located)?;
+        add_parts(listed, number, depth.saturating_add(1), located)?;
     }
     Ok(())
 }
 
 /// Adds the statements that the statement with this number holds.
-#[cycle(nodes)]
+#[cycle(listed)]
 fn add_parts<'a>(
-    nodes: &mut Vec<Node<'a>>,
+    listed: &mut Vec<ListedStatement<'a>>,
     number: usize,
     depth: usize,
     located: &'a Located,
 ) -> Result<(), AllocError> {
     match &located.statement {
-        Statement::Block(block) => add_block(nodes, list_of(number, Part::Block), depth, block),
+        Statement::Block(block) => add_block(listed, list_of(number, Part::Block), depth, block),
         Statement::If { accept, reject, .. } => {
-            add_block(nodes, list_of(number, Part::Accept), depth, accept)?;
-            add_block(nodes, list_of(number, Part::Reject), depth, reject)
+            add_block(listed, list_of(number, Part::Accept), depth, accept)?;
+            add_block(listed, list_of(number, Part::Reject), depth, reject)
         }
-        Statement::Switch { cases, .. } => add_cases(nodes, number, depth, cases.as_slice()),
+        Statement::Switch { cases, .. } => add_cases(listed, number, depth, cases.as_slice()),
         Statement::Loop {
             body,
             continuing,
             ..
         } => {
-            add_block(nodes, list_of(number, Part::Body), depth, body)?;
-            add_block(nodes, list_of(number, Part::Continuing), depth, continuing)
+            add_block(listed, list_of(number, Part::Body), depth, body)?;
+            add_block(listed, list_of(number, Part::Continuing), depth, continuing)
         }
         Statement::Emit(_)
         | Statement::Break
@@ -124,15 +127,20 @@ fn add_parts<'a>(
 }
 
 /// Adds the statements of cases.
-#[cycle(nodes)]
+#[cycle(listed)]
 fn add_cases<'a>(
-    nodes: &mut Vec<Node<'a>>,
+    listed: &mut Vec<ListedStatement<'a>>,
     number: usize,
     depth: usize,
     cases: &'a [SwitchCase],
 ) -> Result<(), AllocError> {
     for (index, case) in cases.iter().enumerate() {
-        add_block(nodes, list_of(number, Part::Case(index)), depth, &case.body)?;
+        add_block(
+            listed,
+            list_of(number, Part::Case(index)),
+            depth,
+            &case.body,
+        )?;
     }
     Ok(())
 }
@@ -145,13 +153,13 @@ fn list_of(number: usize, part: Part) -> Option<Inside> {
 /// The parts that hold a statement, the outermost first. An Err is out of memory.
 pub(crate) fn parts_around(
     alloc: Global,
-    nodes: &[Node<'_>],
+    listed: &[ListedStatement<'_>],
     number: usize,
 ) -> Result<Vec<Inside>, AllocError> {
     let mut around = Vec::new(alloc);
     let mut at = number;
-    for _ in 0..nodes.len() {
-        let Some(inside) = inside_of(nodes, at) else {
+    for _ in 0..listed.len() {
+        let Some(inside) = inside_of(listed, at) else {
             break;
         };
         around.push(inside)?;
@@ -164,10 +172,10 @@ pub(crate) fn parts_around(
 /// The parts that hold a position, the outermost first. An Err is out of memory.
 pub fn way_to(
     alloc: Global,
-    nodes: &[Node<'_>],
+    listed: &[ListedStatement<'_>],
     position: Position,
 ) -> Result<Vec<Inside>, AllocError> {
-    let mut way = parts_around(alloc, nodes, position.number())?;
+    let mut way = parts_around(alloc, listed, position.number())?;
     if let Position::BreakIf(number) = position {
         way.push(Inside {
             number,
@@ -178,18 +186,18 @@ pub fn way_to(
 }
 
 /// The part whose list a statement stands in.
-fn inside_of(nodes: &[Node<'_>], number: usize) -> Option<Inside> {
-    match nodes.get(number) {
+fn inside_of(listed: &[ListedStatement<'_>], number: usize) -> Option<Inside> {
+    match listed.get(number) {
         Some(node) => node.inside,
         None => None,
     }
 }
 
 /// The part of a Loop that a statement stands in, at any depth within it: that of the innermost Loop.
-pub(crate) fn loop_part(nodes: &[Node<'_>], number: usize) -> Option<Inside> {
+pub(crate) fn loop_part(listed: &[ListedStatement<'_>], number: usize) -> Option<Inside> {
     let mut at = number;
-    for _ in 0..nodes.len() {
-        match inside_of(nodes, at) {
+    for _ in 0..listed.len() {
+        match inside_of(listed, at) {
             Some(inside) if matches!(inside.part, Part::Body | Part::Continuing) => {
                 return Some(inside);
             }

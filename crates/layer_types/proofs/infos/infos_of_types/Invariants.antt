@@ -1,6 +1,6 @@
 use Rattle.std.proofs.Common.{◌≡◌, drop, [], length}
 use Rattle.layer_types.specs.ComputedInfos.{infos_from}
-use Rattle.layer_types.proofs.infos.type_infos.Given as goal
+use Rattle.layer_types.proofs.infos.infos_of_types.Given as goal
 
 abbrev pub invariant-loop-index : goal.invariant-loop-index
 invariant-loop-index l =
