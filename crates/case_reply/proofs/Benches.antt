@@ -27,8 +27,8 @@ use Rattle.case_notation.specs.CaseBlocks.{list_of}
 use Rattle.check_entry.specs.GivenInfos.{NamesTypes, AreInfosOf}
 use Rattle.ir_facts.specs.declared.valid.settings.Settings.{Settings}
 use Rattle.case_reply.specs.CaseJudgement.{bench_infos, IsPlainAnswer}
-use Rattle.naga_module.specs.ModuleJudgement.{Answer, Fits, first_infos}
-use Rattle.naga_module.specs.ModuleLaw.{IsToldOfFunctions, FunctionsAloneAreTold}
+use Rattle.naga_module.specs.ModuleJudgement.{ModuleAnswer, Fits, first_infos}
+use Rattle.naga_module.specs.ModuleLaw.{IsReportedOfFunctions, FunctionsAloneAreReported}
 use Rattle.naga_layers.specs.Plain.Meaning.{plain_meaning, plain_layer}
 use Rattle.case_notation.specs.Sayable.{is_sayable, is_sayable_statement, are_sayable_cases, is_below_if_any, is_sayable_leaf, is_empty}
 use Rattle.case_notation.specs.declared.bench.Bench.{Bench}
@@ -204,8 +204,8 @@ bench_fits settings bench block =
     record { infos = infos_fit bench block; types_fit = types_fit bench block; globals = globals_fit bench block }
 
 -- what can be told of a bench, by what is known of modules without globals and entry points
-pub told_of_bench : FunctionsAloneAreTold → (settings : Settings) (bench : Bench) (block : Block) → is_sayable (length (names_of bench)) (callees_of bench) (body_of no_operands block) ≡ true →
-    (r : Answer) → IsPlainAnswer settings (bench_module bench block) r → IfErr r IsToldOfFunctions
-told_of_bench law settings bench block sayable (Ok infos) a = tt
-told_of_bench law settings bench block sayable (Err told) a =
+pub reported_of_bench : FunctionsAloneAreReported → (settings : Settings) (bench : Bench) (block : Block) → is_sayable (length (names_of bench)) (callees_of bench) (body_of no_operands block) ≡ true →
+    (r : ModuleAnswer) → IsPlainAnswer settings (bench_module bench block) r → IfErr r IsReportedOfFunctions
+reported_of_bench law settings bench block sayable (Ok infos) a = tt
+reported_of_bench law settings bench block sayable (Err told) a =
     law (plain_meaning plain_layer) settings bench_infos [] (bench_module bench block) told (bench_fits settings bench block) refl refl (functions_fit bench block sayable) a

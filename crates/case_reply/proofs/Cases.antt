@@ -11,13 +11,13 @@ use Rattle.case_reply.specs.BenchModule.{bench_module}
 use Rattle.case_reply.specs.CaseJudgement.{IsPlainAnswer, IsJudgementOf, module_of, settings_of, stages_of_last}
 use Rattle.case_reply.specs.Line.{RepliesToCase, IsAnswerLine, reply_line}
 use Rattle.case_notation.specs.Case.{Case, HoldsBlock, Reads, case_of}
-use Rattle.naga_module.specs.ModuleJudgement.{Answer}
+use Rattle.naga_module.specs.ModuleJudgement.{ModuleAnswer}
 use Rattle.check_faults.specs.declared.module.ModuleFault.TheVariants as told
 use Rattle.case_notation.specs.declared.case.Case as declared
 use Rattle.case_reply.specs.declared.line.Reply.TheVariants.{Accepted, Fault, Unreadable, Memory}
 
 -- what is answered of the module that is made for a case is answered of the case
-pub judged_as : (c : declared.Case) (m : Module) (r : Answer) → HoldsBlock c → m ≡ bench_module c.bench c.body → IsPlainAnswer (settings_of (case_of c)) m r → IsPlainAnswer (settings_of (case_of c)) (module_of (case_of c)) r
+pub judged_as : (c : declared.Case) (m : Module) (r : ModuleAnswer) → HoldsBlock c → m ≡ bench_module c.bench c.body → IsPlainAnswer (settings_of (case_of c)) m r → IsPlainAnswer (settings_of (case_of c)) (module_of (case_of c)) r
 judged_as c m r holds is a =
     subst (λ (n : Module). IsPlainAnswer (settings_of (case_of c)) n r) (is ∙ ap (bench_module c.bench) holds) a
 

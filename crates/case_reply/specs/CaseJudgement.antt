@@ -11,7 +11,7 @@ use Rattle.ir_types.specs.declared.type_info.TypeInfo.{TypeInfo}
 use Rattle.case_reply.specs.BenchModule.{bench_module}
 use Rattle.case_notation.specs.CaseBlocks.{block_of}
 use Rattle.case_notation.specs.Case.{Case}
-use Rattle.naga_module.specs.ModuleJudgement.{Answer, IsJudgement, IsJudgementOrMemory}
+use Rattle.naga_module.specs.ModuleJudgement.{ModuleAnswer, IsJudgement, IsJudgementOrMemory}
 use Rattle.naga_layers.specs.Plain.Meaning.{plain_meaning, plain_layer}
 
 -- the bits of these flags, where they are on
@@ -45,11 +45,11 @@ abbrev pub module_of : Case → Module
 module_of c = bench_module c.bench (block_of c.body)
 
 -- the judgement of a case: that of its module, over the plain layer; a bench has no global expressions
-unfoldable pub IsJudgementOf : Case → Answer → Type 0
+unfoldable pub IsJudgementOf : Case → ModuleAnswer → Type 0
 IsJudgementOf c r = IsJudgement (plain_meaning plain_layer) (settings_of c) bench_infos (module_of c) [] r
 
 -- it is such a judgement, or there was no memory
-abbrev pub IsPlainAnswer : Settings → Module → Answer → Type 0
+abbrev pub IsPlainAnswer : Settings → Module → ModuleAnswer → Type 0
 IsPlainAnswer settings m r = IsJudgementOrMemory (plain_meaning plain_layer) settings bench_infos m [] r
 
 -- the stages that the last function may run in

@@ -8,7 +8,7 @@ use Rattle.ir_errors.specs.Names.{function_error_name}
 use Rattle.case_reply.specs.FaultNames.{inner_text, fault_handle}
 use Rattle.case_reply.specs.CaseJudgement.{IsJudgementOf, stages_of_last}
 use Rattle.case_notation.specs.Case.{Case, Reads}
-use Rattle.naga_module.specs.ModuleJudgement.{Answer}
+use Rattle.naga_module.specs.ModuleJudgement.{ModuleAnswer}
 use Rattle.check_faults.specs.declared.module.ModuleFault.TheVariants as told
 use Rattle.case_reply.specs.declared.line.Reply.{Reply}
 use Rattle.case_reply.specs.declared.line.Reply.TheVariants.{Accepted, Fault, Unreadable, Memory}
@@ -32,7 +32,8 @@ abbrev pub accepted_line : ShaderStages → List ℕ
 accepted_line stages = codes "ok " ++ (stages_text stages ++ newline)
 
 abbrev pub fault_line : FunctionError → List ℕ
-fault_line fault = codes "fault " ++ (function_error_name fault ++ (inner_text fault ++ (handle_text (fault_handle fault) ++ newline)))
+fault_line fault =
+    codes "fault " ++ (function_error_name fault ++ (inner_text fault ++ (handle_text (fault_handle fault) ++ newline)))
 
 abbrev pub unreadable_line : List ℕ
 unreadable_line = codes "unreadable" ++ newline
@@ -42,7 +43,7 @@ memory_line = codes "memory" ++ newline
 
 -- The line of an answer about a module, and its status: the stages of the last function, or the fault of a function. No
 -- other answer has one: none is the judgement of a bench's module.
-unfoldable pub IsAnswerLine : Answer → List ℕ → ℕ → Type 0
+unfoldable pub IsAnswerLine : ModuleAnswer → List ℕ → ℕ → Type 0
 IsAnswerLine (Ok infos) line status = (line ≡ accepted_line (stages_of_last infos.functions)) × (status ≡ 0)
 IsAnswerLine (Err (told.Function handle fault)) line status = (line ≡ fault_line fault) × (status ≡ 1)
 IsAnswerLine (Err told.NotFit) line status = ⊥
@@ -52,7 +53,7 @@ IsAnswerLine (Err told.Memory) line status = ⊥
 
 -- the line of a case, and its status: those of its judgement
 abbrev pub IsCaseLine : Case → List ℕ → ℕ → Type 0
-IsCaseLine c line status = (answer : Answer) × IsJudgementOf c answer × IsAnswerLine answer line status
+IsCaseLine c line status = (answer : ModuleAnswer) × IsJudgementOf c answer × IsAnswerLine answer line status
 
 -- The line of an input, and its status: those of the case that it reads as; where it reads as none, that it is
 -- unreadable.

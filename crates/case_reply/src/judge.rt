@@ -1,7 +1,7 @@
 //! The judgement of a case, and the reply to an input.
 
 ghost use Rattle.std.specs.Prelude.{◌≡◌, [], IfOk, IfErr};
-ghost use Rattle.naga_module.specs.ModuleLaw.{IsToldOfFunctions};
+ghost use Rattle.naga_module.specs.ModuleLaw.{IsReportedOfFunctions};
 ghost use Rattle.case_reply.specs.CaseJudgement.{IsPlainAnswer, flags_of, settings_of, bench_infos, module_of, stages_of_last};
 ghost use Rattle.case_reply.specs.Line.{RepliesToCase};
 ghost use Rattle.case_notation.specs.Case.{HoldsBlock, case_of};
@@ -72,7 +72,7 @@ fn judge(alloc: Global, case: Case) -> Result<ModuleInfo, ModuleFault>
     requires block { HoldsBlock case }
     requires sayable { IsSayable case.bench (case_of case).body }
     ensures judged { IsPlainAnswer (settings_of (case_of case)) (module_of (case_of case)) result }
-    ensures told { IfErr result IsToldOfFunctions }
+    ensures reported { IfErr result IsReportedOfFunctions }
 {
     let settings = settings_of(&case);
     let given = given(alloc)?;
@@ -113,6 +113,7 @@ pub fn reply_to(alloc: Global, input: &[u8]) -> Reply
         Err(ModuleFault::Function(_, fault)) => Reply::Fault(fault.into_inner()),
         Err(ModuleFault::Memory) => Reply::Memory,
         Err(ModuleFault::NotFit | ModuleFault::Global(..) | ModuleFault::EntryPoint(..)) => {
+            // Proved: the contract of `judge` says that a fault is one of a function, or out of memory.
             unreachable!()
         }
     }

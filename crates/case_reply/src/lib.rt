@@ -6,4 +6,6 @@ mod bench_module;
 mod faults;
 pub mod judge;
 pub mod line;
-pub mod worked;
+mod worked;
+
+pub use crate::worked::worked_loop;

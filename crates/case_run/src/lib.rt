@@ -2,6 +2,6 @@
 //! Part of `naga_check`; no promise to users.
 #![tactic(auto)]
 
-pub mod run;
+mod run;
 
 pub use crate::run::run_case;

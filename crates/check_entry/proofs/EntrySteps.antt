@@ -26,17 +26,6 @@ pub refuses_as : (fault : EntryPointError) (given : Refusal EntryPointError) (po
 refuses_as fault (refusal.Fault f) points is h = h ∙ ap (λ e. Some (fault_of e)) (sym is)
 refuses_as fault refusal.Memory points is h = tt
 
--- a refusal at the first of them, and an answer at the second
-pub judges_first : {T : Type 0} (r : Result T (Refusal EntryPointError)) (first second : List (Point EntryFault)) → IsErr r → Answers (FirstOf first) (read_by fault_of r) → Answers (FirstOf (first ++ second)) (read_by fault_of r)
-judges_first (Err (refusal.Fault f)) first second e h = first_of_both first second ∙ ap (λ o. option_or o (first_fault second)) h
-judges_first (Err refusal.Memory) first second e h = tt
-judges_first (Ok t) first second e h = cc
-
-pub judges_second : {T : Type 0} (r : Result T (Refusal EntryPointError)) (first second : List (Point EntryFault)) → first_fault first ≡ None → Answers (FirstOf second) (read_by fault_of r) → Answers (FirstOf (first ++ second)) (read_by fault_of r)
-judges_second (Ok t) first second e h = first_of_both first second ∙ ap (λ o. option_or o (first_fault second)) e ∙ h
-judges_second (Err (refusal.Fault f)) first second e h = first_of_both first second ∙ ap (λ o. option_or o (first_fault second)) e ∙ h
-judges_second (Err refusal.Memory) first second e h = tt
-
 -- points of which none fails
 pub both_pass : {Fault : Type 0} (ps qs : List (Point Fault)) → first_fault ps ≡ None → first_fault qs ≡ None → first_fault (ps ++ qs) ≡ None
 both_pass ps qs e f = first_of_both ps qs ∙ ap (λ o. option_or o (first_fault qs)) e ∙ f

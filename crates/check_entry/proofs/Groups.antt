@@ -13,7 +13,7 @@ use Rattle.ir_leaves.specs.declared.bindings.Binding.{Binding}
 use Rattle.ir_arena.specs.declared.span.Refusal.{Refusal}
 use Rattle.ir_arena.specs.declared.span.Refusal.TheVariants as refusal
 use Rattle.ir_facts.specs.declared.valid.settings.Settings.{Settings}
-use Rattle.ir_types.specs.TypeTests.{it_is}
+use Rattle.ir_types.specs.TypeTests.{is_struct, it_is}
 use Rattle.ir_types.specs.Types.{inner_at}
 use Rattle.ir_leaves.specs.declared.built_in.BuiltIn.TheVariants.{PointIndex, LineIndices, TriangleIndices}
 use Rattle.check_varyings.proofs.Seeing.{points_are_by_position, sees_locations_alone}
@@ -24,7 +24,7 @@ use Rattle.check_varyings.specs.declared.varying.MeshOutputType.{MeshOutputType}
 use Rattle.check_varyings.specs.declared.varying.MeshOutputType.TheVariants.{Neither, VertexOutput, PrimitiveOutput}
 use Rattle.check_varyings.specs.declared.varying.VaryingPlace.{VaryingPlace}
 use Rattle.check_entry.specs.EntryFaults.{EntryFault, OfResult, Other, fault_of}
-use Rattle.check_entry.specs.EntryVaryings.{declared_points, has_one_of_indices, is_one_of_three, is_struct, output_item, output_points, place_of, result_item}
+use Rattle.check_entry.specs.EntryVaryings.{declared_points, has_one_of_indices, is_one_of_three, output_item, output_points, place_of, result_item}
 use Rattle.check_faults.specs.declared.entry.EntryPointError.{EntryPointError}
 use Rattle.check_faults.specs.declared.entry.EntryPointError.TheVariants as fault
 use Rattle.ir_facts.specs.Answers.{Answers, FirstOf, read_by}

@@ -17,7 +17,7 @@ use Rattle.check_entry.specs.EntryVaryings.{argument_points, result_points}
 use Rattle.check_entry.specs.Mesh.{mesh_points}
 use Rattle.check_entry.specs.UsedGlobals.{globals_points}
 use Rattle.check_faults.specs.declared.entry.EntryPointError.{EntryPointError}
-use Rattle.check_entry.proofs.EntrySteps.{judges_first, judges_second}
+use Rattle.ir_facts.proofs.Refusals.{refuses_first, refuses_second, stays_refused}
 
 module _ (below : Meaning) (settings : Settings) (infos : List TypeInfo) (program : Module) (ep : EntryPoint) (info : FunctionInfo) where
   abbrev pub stage : List (Point EntryFault)
@@ -40,29 +40,29 @@ module _ (below : Meaning) (settings : Settings) (infos : List TypeInfo) (progra
     Judges points = Answers (FirstOf points) (read_by fault_of r)
 
     pub at_stage : IsErr r → Judges stage → Judges (used_points below settings infos program ep info)
-    at_stage err here = judges_first r stage (arguments ++ (returned ++ (globals ++ mesh))) err here
+    at_stage err here = refuses_first (read_by fault_of r) stage (arguments ++ (returned ++ (globals ++ mesh))) (stays_refused fault_of r err) here
 
     module _ (no_stage : first_fault stage ≡ None) where
       pub at_arguments : IsErr r → Judges arguments → Judges (used_points below settings infos program ep info)
       at_arguments err here =
-          judges_second r stage (arguments ++ (returned ++ (globals ++ mesh))) no_stage
-          (judges_first r arguments (returned ++ (globals ++ mesh)) err here)
+          refuses_second (read_by fault_of r) stage (arguments ++ (returned ++ (globals ++ mesh))) no_stage
+          (refuses_first (read_by fault_of r) arguments (returned ++ (globals ++ mesh)) (stays_refused fault_of r err) here)
 
       module _ (no_arguments : first_fault arguments ≡ None) where
         pub at_result : IsErr r → Judges returned → Judges (used_points below settings infos program ep info)
         at_result err here =
-            judges_second r stage (arguments ++ (returned ++ (globals ++ mesh))) no_stage
-            (judges_second r arguments (returned ++ (globals ++ mesh)) no_arguments (judges_first r returned (globals ++ mesh) err here))
+            refuses_second (read_by fault_of r) stage (arguments ++ (returned ++ (globals ++ mesh))) no_stage
+            (refuses_second (read_by fault_of r) arguments (returned ++ (globals ++ mesh)) no_arguments (refuses_first (read_by fault_of r) returned (globals ++ mesh) (stays_refused fault_of r err) here))
 
         module _ (no_returned : first_fault returned ≡ None) where
           pub at_globals : IsErr r → Judges globals → Judges (used_points below settings infos program ep info)
           at_globals err here =
-              judges_second r stage (arguments ++ (returned ++ (globals ++ mesh))) no_stage
-              (judges_second r arguments (returned ++ (globals ++ mesh)) no_arguments
-              (judges_second r returned (globals ++ mesh) no_returned (judges_first r globals mesh err here)))
+              refuses_second (read_by fault_of r) stage (arguments ++ (returned ++ (globals ++ mesh))) no_stage
+              (refuses_second (read_by fault_of r) arguments (returned ++ (globals ++ mesh)) no_arguments
+              (refuses_second (read_by fault_of r) returned (globals ++ mesh) no_returned (refuses_first (read_by fault_of r) globals mesh (stays_refused fault_of r err) here)))
 
           pub at_mesh : first_fault globals ≡ None → Judges mesh → Judges (used_points below settings infos program ep info)
           at_mesh no_globals here =
-              judges_second r stage (arguments ++ (returned ++ (globals ++ mesh))) no_stage
-              (judges_second r arguments (returned ++ (globals ++ mesh)) no_arguments
-              (judges_second r returned (globals ++ mesh) no_returned (judges_second r globals mesh no_globals here)))
+              refuses_second (read_by fault_of r) stage (arguments ++ (returned ++ (globals ++ mesh))) no_stage
+              (refuses_second (read_by fault_of r) arguments (returned ++ (globals ++ mesh)) no_arguments
+              (refuses_second (read_by fault_of r) returned (globals ++ mesh) no_returned (refuses_second (read_by fault_of r) globals mesh no_globals here)))

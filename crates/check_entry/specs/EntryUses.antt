@@ -1,5 +1,5 @@
 -- The step of the payload, and how an entry point itself uses globals, beside what its function does; then its stage.
-use Rattle.std.specs.Prelude.{ℕ, Bool, true, false, List, [], ◌∷◌, Option, None, Some, is_none, slice_get}
+use Rattle.std.specs.Prelude.{ℕ, Bool, false, List, [], ◌∷◌, Option, None, Some, is_none, slice_get}
 use Rattle.std.specs.Option.{option_map}
 use Rattle.ir_flags.specs.Bits.{READ, WRITE, VERTEX, FRAGMENT, COMPUTE, MESH, TASK, RAY_GENERATION, ANY_HIT, CLOSEST_HIT, MISS, contains}
 use Rattle.ir_facts.specs.Infos.{with_global_use}
@@ -9,39 +9,13 @@ use Rattle.ir_module.specs.declared.module.MeshStageInfo.{MeshStageInfo}
 use Rattle.ir_leaves.specs.declared.stage.ShaderStage.{ShaderStage}
 use Rattle.ir_leaves.specs.declared.stage.ShaderStage.TheVariants as stage
 use Rattle.ir_types.specs.declared.types.AddressSpace.{AddressSpace}
-use Rattle.ir_types.specs.declared.types.AddressSpace.TheVariants as space
 use Rattle.ir_flags.specs.declared.valid.GlobalUse.{GlobalUse}
 use Rattle.ir_flags.specs.declared.valid.ShaderStages.{ShaderStages}
 use Rattle.ir_facts.specs.declared.valid.info.FunctionInfo.{FunctionInfo}
 use Rattle.check_variables.specs.AllowedUses.{join}
-use Rattle.check_variables.specs.Spaces.{is_task_payload}
+use Rattle.ir_types.specs.SpaceTests.{is_task_payload}
 use Rattle.check_entry.specs.EntryAnswers.{EntryPoints}
 use Rattle.check_faults.specs.declared.entry.EntryPointError.TheVariants as fault
-
--- the space of work groups, and that of immediates
-abbrev pub is_work_group : AddressSpace → Bool
-is_work_group space.Function = false
-is_work_group space.Private = false
-is_work_group space.WorkGroup = true
-is_work_group space.Uniform = false
-is_work_group (space.Storage access) = false
-is_work_group space.Handle = false
-is_work_group space.Immediate = false
-is_work_group space.TaskPayload = false
-is_work_group space.RayPayload = false
-is_work_group space.IncomingRayPayload = false
-
-abbrev pub is_immediate : AddressSpace → Bool
-is_immediate space.Function = false
-is_immediate space.Private = false
-is_immediate space.WorkGroup = false
-is_immediate space.Uniform = false
-is_immediate (space.Storage access) = false
-is_immediate space.Handle = false
-is_immediate space.Immediate = true
-is_immediate space.TaskPayload = false
-is_immediate space.RayPayload = false
-is_immediate space.IncomingRayPayload = false
 
 -- a global that is there, in a space of which this holds
 abbrev pub space_is : (AddressSpace → Bool) → Option GlobalVariable → Bool

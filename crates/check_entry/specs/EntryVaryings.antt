@@ -4,7 +4,7 @@ use Rattle.std.specs.Prelude.{ℕ, Bool, true, false, ◌&&◌, List, [], ◌∷
 use Rattle.std.specs.List.{list_any}
 use Rattle.ir_flags.specs.Bits.{IO_SHAREABLE}
 use Rattle.ir_arena.specs.Points.{Point, within}
-use Rattle.ir_types.specs.TypeTests.{is_same_inner, it_is}
+use Rattle.ir_types.specs.TypeTests.{is_same_inner, is_struct, it_is}
 use Rattle.ir_types.specs.Types.{inner_at}
 use Rattle.ir_leaves.specs.declared.built_in.BuiltIn.{BuiltIn}
 use Rattle.ir_leaves.specs.declared.built_in.BuiltIn.TheVariants.{Position, PointIndex, LineIndices, TriangleIndices}
@@ -29,11 +29,6 @@ use Rattle.check_varyings.specs.declared.varying.VaryingPlace.{VaryingPlace}
 use Rattle.check_entry.specs.EntryFaults.{EntryFault, OfArgument, OfResult, Other, fault_of}
 use Rattle.check_entry.specs.EntryAnswers.{EntryPoints}
 use Rattle.check_faults.specs.declared.entry.EntryPointError.TheVariants as fault
-
--- a struct
-abbrev pub is_struct : TypeInner → Bool
-is_struct (inner.Struct members span) = true
-is_struct _ = false
 
 -- a vector of three u32
 abbrev pub is_three_counts : TypeInner → Bool

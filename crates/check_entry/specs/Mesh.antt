@@ -20,7 +20,8 @@ use Rattle.ir_errors.specs.declared.mesh.MeshFault.{MeshFault}
 use Rattle.ir_errors.specs.declared.mesh.MeshFault.TheVariants.{OutputType, OutputField}
 use Rattle.check_entry.specs.EntryFaults.{EntryFault, fault_of}
 use Rattle.check_entry.specs.EntryAnswers.{EntryPoints}
-use Rattle.check_entry.specs.EntryUses.{is_work_group, lies_in}
+use Rattle.ir_types.specs.SpaceTests.{is_work_group}
+use Rattle.check_entry.specs.EntryUses.{lies_in}
 use Rattle.check_entry.specs.EntryVaryings.{outputs_points}
 use Rattle.check_faults.specs.declared.entry.EntryPointError.{EntryPointError}
 use Rattle.check_faults.specs.declared.entry.EntryPointError.TheVariants as fault

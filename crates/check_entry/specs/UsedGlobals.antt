@@ -23,7 +23,7 @@ use Rattle.check_variables.specs.UsedBindings.{is_used, is_taken_before}
 use Rattle.ir_facts.specs.WhatIsChecked.{checks_bindings}
 use Rattle.ir_facts.specs.Meaning.{Meaning}
 use Rattle.check_entry.specs.EntryAnswers.{EntryPoints}
-use Rattle.check_entry.specs.EntryUses.{is_immediate}
+use Rattle.ir_types.specs.SpaceTests.{is_immediate}
 use Rattle.check_faults.specs.declared.entry.EntryPointError.TheVariants as fault
 
 -- Immediates.

@@ -3,10 +3,7 @@
 ghost use Rattle.std.specs.Prelude.{◌≡◌, ◌++◌, IsTrue, None, Option, ℕ, length, slice_get};
 ghost use Rattle.ir_arena.specs.Points.{first_fault};
 ghost use Rattle.std.specs.Option.{option_copied};
-ghost use Rattle.ir_types.specs.Types.{inner_at};
 ghost use Rattle.check_entry.specs.UsedGlobals.{is_used_immediate, used_immediates, immediate_points, image_access, access_in, ray_points, is_within, allowed_points, used_payload_points};
-ghost use Rattle.check_entry.specs.EntryUses.{is_immediate};
-ghost use Rattle.check_variables.specs.Spaces.{is_task_payload};
 ghost use Rattle.ir_facts.specs.Answers.{Finds, FirstOf};
 
 use bitflags::Flags;
@@ -20,6 +17,7 @@ use ir_flags::ir::StorageAccess;
 use ir_flags::valid::GlobalUse;
 use ir_leaves::stage::ShaderStage;
 use ir_module::module::{GlobalVariable, Module};
+use ir_types::type_methods::inner_at;
 use ir_types::types::{AddressSpace, ImageClass, TypeInner};
 
 /// How a global is used.
@@ -56,44 +54,8 @@ pub(crate) fn is_used_immediate(module: &Module, info: &FunctionInfo, index: usi
     ensures { result ≡ is_used_immediate info.now.global_uses «module».now.global_variables index }
 {
     match module.global_variables.as_slice().get(index) {
-        Some(global) => is_immediate(global.space) && is_used(info, index),
+        Some(global) => global.space.is_immediate() && is_used(info, index),
         None => false,
-    }
-}
-
-/// Whether a space is that of immediates.
-fn is_immediate(space: AddressSpace) -> bool
-    ensures { result ≡ is_immediate space }
-{
-    match space {
-        AddressSpace::Immediate => true,
-        AddressSpace::Function
-        | AddressSpace::Private
-        | AddressSpace::WorkGroup
-        | AddressSpace::Uniform
-        | AddressSpace::Storage { .. }
-        | AddressSpace::Handle
-        | AddressSpace::TaskPayload
-        | AddressSpace::RayPayload
-        | AddressSpace::IncomingRayPayload => false,
-    }
-}
-
-/// Whether a space is that of task payloads.
-pub(crate) fn is_task_payload(space: AddressSpace) -> bool
-    ensures { result ≡ is_task_payload space }
-{
-    match space {
-        AddressSpace::TaskPayload => true,
-        AddressSpace::Function
-        | AddressSpace::Private
-        | AddressSpace::WorkGroup
-        | AddressSpace::Uniform
-        | AddressSpace::Storage { .. }
-        | AddressSpace::Handle
-        | AddressSpace::Immediate
-        | AddressSpace::RayPayload
-        | AddressSpace::IncomingRayPayload => false,
     }
 }
 
@@ -115,7 +77,7 @@ pub(crate) fn use_holds(
         | AddressSpace::Storage { .. }
         | AddressSpace::Immediate => is_within(allowed_use(var.space, None, stage), uses),
         AddressSpace::Handle => {
-            let storage = access_in(module, inner_at(module, var.ty));
+            let storage = access_in(module, inner_at(module.types.as_slice(), var.ty));
             is_within(allowed_use(var.space, storage, stage), uses)
         }
         AddressSpace::Function
@@ -138,7 +100,7 @@ pub(crate) fn check_allowed(
         uses)) result }
 {
     check_ray(stage, var.space)?;
-    let storage = access_in(module, inner_at(module, var.ty));
+    let storage = access_in(module, inner_at(module.types.as_slice(), var.ty));
     if !is_within(allowed_use(var.space, storage, stage), uses) {
         return Err(EntryPointError::InvalidGlobalUsage(handle, uses));
     }
@@ -177,22 +139,15 @@ fn is_within(allowed: Option<GlobalUse>, uses: GlobalUse) -> bool
     }
 }
 
-/// The type at a handle.
-pub(crate) fn inner_at(module: &Module, ty: Handle<tag::Type>) -> Option<&TypeInner>
-    ensures { option_copied result ≡ inner_at «module».now.types ty }
-{
-    match module.types.as_slice().get(ty.index()) {
-        Some(ty) => Some(&ty.inner),
-        None => None,
-    }
-}
-
 /// The access of a storage image, or of a binding array of such images.
 fn access_in(module: &Module, inner: Option<&TypeInner>) -> Option<StorageAccess>
     ensures { result ≡ access_in «module».now.types (option_copied inner.entry) }
 {
     match inner {
-        Some(TypeInner::BindingArray { base, .. }) => image_access(inner_at(module, *base)),
+        Some(TypeInner::BindingArray { base, .. }) => image_access(inner_at(
+            module.types.as_slice(),
+            *base,
+        )),
         Some(
             TypeInner::Scalar(_)
             | TypeInner::Vector { .. }

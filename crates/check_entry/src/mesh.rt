@@ -2,7 +2,8 @@
 
 ghost use Rattle.std.specs.Prelude.{◌≡◌};
 ghost use Rattle.check_entry.specs.Mesh.{mesh_error, override_at, is_implied, with_overrides_of, is_same_mesh, is_points, has_topology, variable_points, stated_points};
-ghost use Rattle.check_entry.specs.EntryUses.{is_work_group, lies_in};
+ghost use Rattle.ir_types.specs.SpaceTests.{is_work_group};
+ghost use Rattle.check_entry.specs.EntryUses.{lies_in};
 ghost use Rattle.ir_facts.specs.Answers.{Finds, FirstOf};
 
 use check_faults::entry::EntryPointError;
@@ -12,7 +13,6 @@ use ir_errors::mesh::MeshFault;
 use ir_flags::capabilities::Capabilities;
 use ir_module::expressions::Expression;
 use ir_module::module::{MeshOutputTopology, MeshStageInfo, Module};
-use ir_types::types::AddressSpace;
 
 /// What is wrong with the output variable, as a fault of the entry point.
 pub(crate) fn mesh_error(found: MeshFault) -> EntryPointError
@@ -28,26 +28,8 @@ fn is_in_work_group(module: &Module, global: Handle<tag::GlobalVariable>) -> boo
     ensures { result ≡ lies_in is_work_group «module».now.global_variables global }
 {
     match module.global_variables.as_slice().get(global.index()) {
-        Some(global) => is_work_group(global.space),
+        Some(global) => global.space.is_work_group(),
         None => false,
-    }
-}
-
-/// Whether a space is that of work groups.
-fn is_work_group(space: AddressSpace) -> bool
-    ensures { result ≡ is_work_group space }
-{
-    match space {
-        AddressSpace::WorkGroup => true,
-        AddressSpace::Function
-        | AddressSpace::Private
-        | AddressSpace::Uniform
-        | AddressSpace::Storage { .. }
-        | AddressSpace::Handle
-        | AddressSpace::Immediate
-        | AddressSpace::TaskPayload
-        | AddressSpace::RayPayload
-        | AddressSpace::IncomingRayPayload => false,
     }
 }
 

@@ -4,12 +4,11 @@ ghost use Rattle.std.specs.Prelude.{◌≡◌, ◌<◌, IfSome, IsTrue, List, No
 ghost use Rattle.ir_arena.specs.Points.{first_fault, within};
 ghost use Rattle.ir_module.specs.declared.module.GlobalVariable.{GlobalVariable as Variable};
 ghost use Rattle.check_entry.specs.EntryFaults.{fault_of};
-ghost use Rattle.check_variables.specs.Spaces.{is_task_payload};
+ghost use Rattle.ir_types.specs.SpaceTests.{is_task_payload};
 ghost use Rattle.check_entry.specs.EntryUses.{lies_in, place_points, made_points, taken_points, payload_points, with_use_of, output_variable_of, with_own_uses, only, stage_points};
 ghost use Rattle.ir_facts.specs.Answers.{Answers, Finds, FirstOf, read_by};
 
 use crate::answers::answer;
-use crate::globals::is_task_payload;
 use bitflags::Flags;
 use check_faults::entry::EntryPointError;
 use ir_arena::handle::Handle;
@@ -123,7 +122,7 @@ fn is_payload(module: &Module, global: Handle<tag::GlobalVariable>) -> bool
     ensures { result ≡ lies_in is_task_payload «module».now.global_variables global }
 {
     match module.global_variables.as_slice().get(global.index()) {
-        Some(global) => is_task_payload(global.space),
+        Some(global) => global.space.is_task_payload(),
         None => false,
     }
 }

@@ -2,44 +2,33 @@
 
 ghost use Rattle.std.specs.Prelude.{◌≡◌, IsTrue, List, None, Option};
 ghost use Rattle.std.specs.Option.{option_copied};
-ghost use Rattle.ir_flags.specs.Bits.{IO_SHAREABLE};
 ghost use Rattle.ir_arena.specs.Points.{Point, first_fault, within};
 ghost use Rattle.ir_module.specs.declared.functions.FunctionResult.{FunctionResult as Declared};
 ghost use Rattle.ir_types.specs.declared.types.Type.{«Type» as IrType};
 ghost use Rattle.ir_types.specs.TypeTests.{it_is};
 ghost use Rattle.ir_leaves.specs.declared.built_in.BuiltIn.TheVariants.{PointIndex, LineIndices, TriangleIndices};
-ghost use Rattle.ir_types.specs.TypeInfos.{type_has};
 ghost use Rattle.check_varyings.specs.VaryingFaults.{VaryingFault as Given, varying_fault_of};
 ghost use Rattle.check_varyings.specs.Varyings.{seen_in};
 ghost use Rattle.check_entry.specs.EntryFaults.{OfArgument, OfResult, fault_of};
-ghost use Rattle.check_entry.specs.EntryVaryings.{is_struct, is_three_counts, returns_counts, is_one_of_three, returned_points, are_blend_sources, with_blending};
+ghost use Rattle.check_entry.specs.EntryVaryings.{is_three_counts, returns_counts, is_one_of_three, returned_points, are_blend_sources, with_blending};
 ghost use Rattle.ir_facts.specs.Answers.{Answers, Finds, FirstOf, IsFirstFault, read_by, refusal_read_by};
 
 use crate::answers::answer;
-use crate::globals::inner_at;
 use check_faults::entry::EntryPointError;
 use check_varyings::varying::VaryingState;
-use ir_arena::handle::Handle;
+use ir_arena::Refused;
 use ir_arena::span::Refusal;
-use ir_arena::{Refused, tag};
 use ir_errors::interface::VaryingError;
 use ir_facts::valid::info::FunctionInfo;
-use ir_flags::valid::TypeFlags;
 use ir_leaves::built_in::BuiltIn;
 use ir_leaves::scalars::{Scalar, VectorSize};
 use ir_leaves::stage::ShaderStage;
 use ir_module::functions::FunctionResult;
 use ir_module::module::{EntryPoint, Module};
-use ir_types::type_info::TypeInfo;
+use ir_types::type_info::{TypeInfo, is_shareable};
+use ir_types::type_methods::{inner_at, is_struct};
 use ir_types::types::TypeInner;
 use std::alloc::{AllocError, Global};
-
-/// Whether a type is a struct.
-pub(crate) fn is_struct(inner: Option<&TypeInner>) -> bool
-    ensures { result ≡ it_is is_struct (option_copied inner.entry) }
-{
-    matches!(inner, Some(TypeInner::Struct { .. }))
-}
 
 /// Whether a type is a vector of three u32.
 fn is_three_counts(inner: Option<&TypeInner>) -> bool
@@ -141,7 +130,7 @@ fn returns_counts(module: &Module, declared: Option<FunctionResult>) -> bool
     ensures { result ≡ returns_counts «module».now.types declared }
 {
     match declared {
-        Some(declared) => is_three_counts(inner_at(module, declared.ty)),
+        Some(declared) => is_three_counts(inner_at(module.types.as_slice(), declared.ty)),
         None => false,
     }
 }
@@ -196,16 +185,6 @@ pub(crate) fn has_one_of_indices(state: &VaryingState) -> bool
     }
 }
 
-/// Whether a type is shared between stages.
-fn is_shareable(infos: &[TypeInfo], ty: Handle<tag::Type>) -> bool
-    ensures { result ≡ type_has infos.now ty IO_SHAREABLE }
-{
-    match infos.get(ty.index()) {
-        Some(info) => info.flags.contains(TypeFlags::IO_SHAREABLE),
-        None => false,
-    }
-}
-
 /// Whether a result is the two sources of a blend: a struct without binding that is shared between stages.
 fn are_blend_sources(module: &Module, infos: &[TypeInfo], declared: Option<FunctionResult>) -> bool
     ensures { result ≡ are_blend_sources «module».now.types infos.now declared }
@@ -213,7 +192,7 @@ fn are_blend_sources(module: &Module, infos: &[TypeInfo], declared: Option<Funct
     match declared {
         Some(declared) => declared.binding.is_none()
             && is_shareable(infos, declared.ty)
-            && is_struct(inner_at(module, declared.ty)),
+            && is_struct(inner_at(module.types.as_slice(), declared.ty)),
         None => false,
     }
 }

@@ -4,8 +4,8 @@
 
 pub mod entry;
 pub mod module;
-pub mod report;
-pub mod sentences;
+mod report;
+mod sentences;
 
 pub use crate::entry::EntryPointError;
 pub use crate::module::ModuleFault;

@@ -13,7 +13,7 @@ use Rattle.ir_errors.specs.declared.function.CallError.TheVariants.{Argument, Ar
 use Rattle.ir_errors.specs.declared.function.FunctionError.TheVariants.{InvalidCall}
 use Rattle.ir_arena.proofs.Points.{first_holds, both_hold, first_of_both, first_within, not_holds}
 use Rattle.naga_runs.specs.Handles.{Handles}
-use Rattle.naga_runs.specs.Visits.{Place}
+use Rattle.naga_runs.specs.Visits.{VisitPlace}
 use Rattle.ir_arena.specs.Points.{Point, first_fault, within}
 use Rattle.ir_arena.specs.declared.span.Refusal.{Refusal}
 use Rattle.ir_errors.specs.declared.function.FunctionError.{FunctionError}
@@ -37,7 +37,7 @@ within_none (Some x) f e = cc
 same_length : (m n : ℕ) → (m == n) ≡ true → m ≡ n
 same_length m n e = grind (arith, nat_tests)
 
-arguments_fit : (context : Context) (place : Place) (k : ℕ) (ds : List FunctionArgument) (gs : List ℕ) (acts : List Act) → length ds ≡ length gs → first_fault (passed_points_from context place k ds gs) ≡ None → Fit (may_use place) (is_in_scope place) acts → Fit (may_use place) (is_in_scope place) (map Use gs ++ acts)
+arguments_fit : (context : Context) (place : VisitPlace) (k : ℕ) (ds : List FunctionArgument) (gs : List ℕ) (acts : List Act) → length ds ≡ length gs → first_fault (passed_points_from context place k ds gs) ≡ None → Fit (may_use place) (is_in_scope place) acts → Fit (may_use place) (is_in_scope place) (map Use gs ++ acts)
 arguments_fit context place k [] [] acts l e rest = rest
 arguments_fit context place k (d ∷ ds) (g ∷ gs) acts l e rest =
     let both = both_hold (passed_points context place k d.ty g) (passed_points_from context place (suc k) ds gs) e in
@@ -49,7 +49,7 @@ arguments_fit context place k [] (g ∷ gs) acts l e rest = cc
 arguments_fit context place k (d ∷ ds) [] acts l e rest = cc
 
 -- where not every run has put an argument, its point fails
-pub argument_missing : (context : Context) (place : Place) (f i k d : ℕ) (ds : List FunctionArgument) (gs : List ℕ) → i < length gs → length ds ≡ length gs → may_use place (get_or gs i d) ≡ false → first_fault (within (InvalidCall f) (passed_points_from context place k (drop i ds) (drop i gs))) ≡ None → ⊥
+pub argument_missing : (context : Context) (place : VisitPlace) (f i k d : ℕ) (ds : List FunctionArgument) (gs : List ℕ) → i < length gs → length ds ≡ length gs → may_use place (get_or gs i d) ≡ false → first_fault (within (InvalidCall f) (passed_points_from context place k (drop i ds) (drop i gs))) ≡ None → ⊥
 argument_missing context place f i k z [] gs lt l missing none = absurd (omega (arith, lt, l))
 argument_missing context place f i k z (d ∷ ds) [] lt l missing none = cc
 argument_missing context place f zero k z (d ∷ ds) (g ∷ gs) lt l missing none =
@@ -60,12 +60,12 @@ argument_missing context place f (suc i) k z (d ∷ ds) (g ∷ gs) lt l missing 
     argument_missing context place f i k z ds gs (omega arith) (omega (arith, l)) missing none
 
 -- what holds of all arguments holds of them one by one
-pub arguments_pass : (context : Context) (place : Place) (f : ℕ) (ds : List FunctionArgument) (gs : List ℕ) → AllHold (within (InvalidCall f) (all_passed_points context place ds gs)) → AllHold (within (InvalidCall f) (passed_points_from context place 0 ds gs))
+pub arguments_pass : (context : Context) (place : VisitPlace) (f : ℕ) (ds : List FunctionArgument) (gs : List ℕ) → AllHold (within (InvalidCall f) (all_passed_points context place ds gs)) → AllHold (within (InvalidCall f) (passed_points_from context place 0 ds gs))
 arguments_pass context place f ds gs all =
     (first_holds (length ds == length gs) (InvalidCall f (ArgumentCount (length ds) (length gs))) (within (InvalidCall f) (passed_points_from context place 0 ds gs)) all).1
 
 -- the points of a result, where it names one
-pub named_holds : (context : Context) (filled : Handles) (place : Place) (f : ℕ) (returns : Bool) (r : ℕ) → first_fault (call_result_points context filled place f returns (Some r)) ≡ None →
+pub named_holds : (context : Context) (filled : Handles) (place : VisitPlace) (f : ℕ) (returns : Bool) (r : ℕ) → first_fault (call_result_points context filled place f returns (Some r)) ≡ None →
     (is_in_scope place r ≡ false) × ((is_call_result_of f (expression_at context r) && returns) ≡ true) × (is_fresh context filled r ≡ true)
 named_holds context filled place f returns r e =
     let fresh : Point CallError = (is_fresh context filled r, ResultAlreadyPopulated r) in
@@ -75,7 +75,7 @@ named_holds context filled place f returns r e =
     let third = first_holds (is_fresh context filled r) (ResultAlreadyPopulated r) [] second.1 in
     (not_holds (is_in_scope place r) first.0, second.0, third.0)
 
-module _ (context : Context) (filled : Handles) (place : Place) (f : ℕ) (gs : List ℕ) where
+module _ (context : Context) (filled : Handles) (place : VisitPlace) (f : ℕ) (gs : List ℕ) where
   abbrev callee : Option Function
   callee = slice_get context.program.functions f
 
@@ -94,24 +94,24 @@ module _ (context : Context) (filled : Handles) (place : Place) (f : ℕ) (gs : 
       put_fits None h = tt
       put_fits (Some r) h = (h, tt)
 
-pub callee_holds : (context : Context) (filled : Handles) (place : Place) (f : ℕ) (gs : List ℕ) (named : Option ℕ) → first_fault (call_points context filled place f gs named) ≡ None → first_fault (callee_points context filled place f gs named) ≡ None
+pub callee_holds : (context : Context) (filled : Handles) (place : VisitPlace) (f : ℕ) (gs : List ℕ) (named : Option ℕ) → first_fault (call_points context filled place f gs named) ≡ None → first_fault (callee_points context filled place f gs named) ≡ None
 callee_holds context filled place f gs named e =
     let inside = callee_points context filled place f gs named in
     within_none (first_fault inside) (InvalidCall f) (sym (first_within (InvalidCall f) inside) ∙ e)
 
 -- what holds of the result of a call
-pub call_holds : (context : Context) (filled : Handles) (place : Place) (f : ℕ) (gs : List ℕ) (r : ℕ) → first_fault (call_points context filled place f gs (Some r)) ≡ None →
+pub call_holds : (context : Context) (filled : Handles) (place : VisitPlace) (f : ℕ) (gs : List ℕ) (r : ℕ) → first_fault (call_points context filled place f gs (Some r)) ≡ None →
     (is_in_scope place r ≡ false) × ((is_call_result_of f (expression_at context r) && has_result (slice_get context.program.functions f)) ≡ true) × (is_fresh context filled r ≡ true)
 call_holds context filled place f gs r e =
     let callee = slice_get context.program.functions f in
     let both = both_hold (all_passed_points context place (arguments_of callee) gs) (call_result_points context filled place f (has_result callee) (Some r)) (callee_holds context filled place f gs (Some r) e) in
     named_holds context filled place f (has_result callee) r both.1
 
-pub call_fits : (context : Context) (filled : Handles) (place : Place) (f : ℕ) (gs : List ℕ) (named : Option ℕ) → first_fault (call_points context filled place f gs named) ≡ None → Fit (may_use place) (is_in_scope place) (map Use gs ++ put_if named)
+pub call_fits : (context : Context) (filled : Handles) (place : VisitPlace) (f : ℕ) (gs : List ℕ) (named : Option ℕ) → first_fault (call_points context filled place f gs named) ≡ None → Fit (may_use place) (is_in_scope place) (map Use gs ++ put_if named)
 call_fits context filled place f gs named e = callee_fits context filled place f gs named (callee_holds context filled place f gs named e)
 
 -- a call of a function that is there
-module _ (context : Context) (filled : Handles) (place : Place) (f : ℕ) (gs : List ℕ) (named : Option ℕ) (callee : Function) (is : slice_get context.program.functions f ≡ Some callee) where
+module _ (context : Context) (filled : Handles) (place : VisitPlace) (f : ℕ) (gs : List ℕ) (named : Option ℕ) (callee : Function) (is : slice_get context.program.functions f ≡ Some callee) where
   abbrev arguments : Points
   arguments = within (InvalidCall f) (all_passed_points context place callee.arguments gs)
 

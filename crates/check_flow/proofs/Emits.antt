@@ -14,7 +14,7 @@ use Rattle.ir_errors.specs.declared.function.FunctionError.TheVariants as fault
 use Rattle.ir_module.specs.declared.expressions.Expression.{Expression}
 use Rattle.naga_runs.specs.Handles.{Handles, with_handle}
 use Rattle.naga_runs.specs.PutsAndUses.{puts_of}
-use Rattle.naga_runs.specs.Visits.{Place}
+use Rattle.naga_runs.specs.Visits.{VisitPlace}
 use Rattle.check_scope.specs.BodyTrees.{emitted_operands, operands_if}
 use Rattle.check_scope.specs.Context.{Context}
 use Rattle.check_scope.specs.ScopePoints.{Points, use_point, put_point, is_in_scope}
@@ -88,7 +88,7 @@ module _ (context : Context) (s : Sets) (start h : ℕ) (le : start ≤ h) where
       ∙ ap (asked (within_emit (place_at s) start h).must) (ap (λ u. u.scope h) e ∙ in_scope_before s.scope start h le)
 
 -- the points of one handle, one after the other
-module _ (context : Context) (place : Place) (h : ℕ) where
+module _ (context : Context) (place : VisitPlace) (h : ℕ) where
   abbrev puts : Points
   puts = put_point place h ∷ []
 
@@ -116,7 +116,7 @@ module _ (context : Context) (place : Place) (h : ℕ) where
       not_holds (is_in_scope place h) (first_holds (not (is_in_scope place h)) (ExpressionAlreadyInScope h) [] (both_hold operands puts kind.1).1).0
 
 -- the points of one handle, where it is asked first whether it is of a kind that an Emit emits and its operands hold
-module _ (context : Context) (place : Place) (h : ℕ) (o : Option Expression) (is : o ≡ expression_at context h) (ready : Bool) (asked : IsTrue ready ↔ ((is_result o ≡ false) × AllHold (map (use_point place) (operands_if o)))) where
+module _ (context : Context) (place : VisitPlace) (h : ℕ) (o : Option Expression) (is : o ≡ expression_at context h) (ready : Bool) (asked : IsTrue ready ↔ ((is_result o ≡ false) × AllHold (map (use_point place) (operands_if o)))) where
   pub emitted_passes : ready ≡ true → IsTrue (not (is_in_scope place h)) ↔ AllHold (emitted_points context place place h)
   emitted_passes holds =
       (λ new. emitted_once context place h o is (asked.0 holds).0 (asked.0 holds).1 (not_holds (is_in_scope place h) new), λ all. ap not (emitted_new context place h all))
@@ -137,7 +137,7 @@ module _ (context : Context) (place : Place) (h : ℕ) (o : Option Expression) (
           ap (λ x. first_fault (map (use_point place) (operands_if x))) is ∙ here
 
 -- the points of one handle, and those behind it
-module _ (context : Context) (place : Place) (start h end : ℕ) (lt : h < end) where
+module _ (context : Context) (place : VisitPlace) (start h end : ℕ) (lt : h < end) where
   abbrev here : Points
   here = emitted_points context (within_emit place start h) place h
 
@@ -161,7 +161,7 @@ module _ (context : Context) (place : Place) (start h end : ℕ) (lt : h < end) 
   emit_next whole e none =
       sym (ap first_fault split ∙ first_of_both here behind ∙ ap (λ o. option_or o (first_fault behind)) none) ∙ e
 
-pub emit_none : (context : Context) (place : Place) (start h end : ℕ) → end ≤ h → first_fault (emit_points_from context place start h (end - h)) ≡ None
+pub emit_none : (context : Context) (place : VisitPlace) (start h end : ℕ) → end ≤ h → first_fault (emit_points_from context place start h (end - h)) ≡ None
 emit_none context place start h end le =
     let none : end - h ≡ 0 = omega arith in ap (λ n. first_fault (emit_points_from context place start h n)) none
 

@@ -9,7 +9,7 @@ use Rattle.ir_statements.specs.declared.operations.SwitchValue.{SwitchValue}
 use Rattle.ir_arena.specs.Points.{Point, within}
 use Rattle.naga_runs.specs.Handles.{Handles, with_handle}
 use Rattle.ir_statements.specs.View.{list_cases}
-use Rattle.naga_runs.specs.Visits.{Place}
+use Rattle.naga_runs.specs.Visits.{VisitPlace}
 use Rattle.check_scope.specs.BodyTrees.{case_list}
 use Rattle.check_scope.specs.Context.{Context}
 use Rattle.check_scope.specs.ScopePoints.{Points, use_point}
@@ -76,7 +76,7 @@ module _ (f g : ℕ → List ℕ) where
   same_last (c ∷ []) = refl
   same_last (c ∷ d ∷ cs) = same_last (d ∷ cs)
 
-  pub same_switch : (context : Context) (place : Place) (h : ℕ) (cs : List SwitchCase) → switch_points context place h (list_cases f cs) ≡ switch_points context place h (list_cases g cs)
+  pub same_switch : (context : Context) (place : VisitPlace) (h : ℕ) (cs : List SwitchCase) → switch_points context place h (list_cases f cs) ≡ switch_points context place h (list_cases g cs)
   same_switch context place h cs =
       let points : List SwitchValue → Bool → Points = λ values last.
       use_point place h

@@ -11,7 +11,7 @@ use Rattle.ir_errors.specs.declared.function.CallError.{CallError}
 use Rattle.ir_errors.specs.declared.function.CallError.TheVariants.{Argument, ArgumentCount, ArgumentType, ExpressionMismatch, ResultAlreadyInScope, ResultAlreadyPopulated}
 use Rattle.ir_errors.specs.declared.function.FunctionError.TheVariants.{InvalidCall}
 use Rattle.naga_runs.specs.Handles.{Handles}
-use Rattle.naga_runs.specs.Visits.{Place}
+use Rattle.naga_runs.specs.Visits.{VisitPlace}
 use Rattle.ir_arena.specs.Points.{Point, within}
 use Rattle.check_scope.specs.Context.{Context}
 use Rattle.check_scope.specs.ScopePoints.{Points, may_use, is_in_scope}
@@ -40,63 +40,30 @@ abbrev pub is_passed_as : Context → ℕ → ℕ → Bool
 is_passed_as context given declared = is_passed_for context declared (resolution_at context given)
 
 -- the argument of this index: put by every run, and of the declared type
-abbrev pub passed_points : Context → Place → ℕ → ℕ → ℕ → CallPoints
+abbrev pub passed_points : Context → VisitPlace → ℕ → ℕ → ℕ → CallPoints
 passed_points context place index declared given =
     (may_use place given, Argument index NotInScope)
     ∷ (is_passed_as context given declared, ArgumentType index declared given)
     ∷ []
 
 -- the arguments in order, the first of which has this index
-abbrev pub passed_points_from : Context → Place → ℕ → List FunctionArgument → List ℕ → CallPoints
+abbrev pub passed_points_from : Context → VisitPlace → ℕ → List FunctionArgument → List ℕ → CallPoints
 passed_points_from context place index (declared ∷ more) (given ∷ rest) =
     passed_points context place index declared.ty given ++ passed_points_from context place (suc index) more rest
 passed_points_from context place index _ _ = []
 
 -- as many arguments as are declared, and each of them
-abbrev pub all_passed_points : Context → Place → List FunctionArgument → List ℕ → CallPoints
+abbrev pub all_passed_points : Context → VisitPlace → List FunctionArgument → List ℕ → CallPoints
 all_passed_points context place declared given =
     (length declared == length given, ArgumentCount (length declared) (length given))
     ∷ passed_points_from context place 0 declared given
 
 abbrev pub is_call_result_of : ℕ → Option Expression → Bool
-is_call_result_of f None = false
 is_call_result_of f (Some (e.CallResult g)) = g == f
-is_call_result_of f (Some (e.Literal l)) = false
-is_call_result_of f (Some (e.Constant h)) = false
-is_call_result_of f (Some (e.Override h)) = false
-is_call_result_of f (Some (e.ZeroValue ty)) = false
-is_call_result_of f (Some (e.Compose ty components)) = false
-is_call_result_of f (Some (e.Access base index)) = false
-is_call_result_of f (Some (e.AccessIndex base index)) = false
-is_call_result_of f (Some (e.FunctionArgument i)) = false
-is_call_result_of f (Some (e.GlobalVariable h)) = false
-is_call_result_of f (Some (e.LocalVariable h)) = false
-is_call_result_of f (Some (e.Load pointer)) = false
-is_call_result_of f (Some (e.AtomicResult ty comparison)) = false
-is_call_result_of f (Some (e.WorkGroupUniformLoadResult ty)) = false
-is_call_result_of f (Some e.RayQueryProceedResult) = false
-is_call_result_of f (Some e.SubgroupBallotResult) = false
-is_call_result_of f (Some (e.SubgroupOperationResult ty)) = false
-is_call_result_of f (Some (e.Splat detail operands)) = false
-is_call_result_of f (Some (e.Swizzle detail operands)) = false
-is_call_result_of f (Some (e.ImageSample detail operands)) = false
-is_call_result_of f (Some (e.ImageLoad detail operands)) = false
-is_call_result_of f (Some (e.ImageQuery detail operands)) = false
-is_call_result_of f (Some (e.Unary detail operands)) = false
-is_call_result_of f (Some (e.Binary detail operands)) = false
-is_call_result_of f (Some (e.Select detail operands)) = false
-is_call_result_of f (Some (e.Derivative detail operands)) = false
-is_call_result_of f (Some (e.Relational detail operands)) = false
-is_call_result_of f (Some (e.Math detail operands)) = false
-is_call_result_of f (Some (e.As detail operands)) = false
-is_call_result_of f (Some (e.ArrayLength detail operands)) = false
-is_call_result_of f (Some (e.RayQueryGetIntersection detail operands)) = false
-is_call_result_of f (Some (e.RayQueryVertexPositions detail operands)) = false
-is_call_result_of f (Some (e.CooperativeLoad detail operands)) = false
-is_call_result_of f (Some (e.CooperativeMultiplyAdd detail operands)) = false
+is_call_result_of f _ = false
 
 -- a result: not in scope yet, of this function, which returns one, and fresh. Without one the function returns none
-abbrev pub call_result_points : Context → Handles → Place → ℕ → Bool → Option ℕ → CallPoints
+abbrev pub call_result_points : Context → Handles → VisitPlace → ℕ → Bool → Option ℕ → CallPoints
 call_result_points context filled place f returns (Some r) =
     (not (is_in_scope place r), ResultAlreadyInScope r)
     ∷ (is_call_result_of f (expression_at context r) && returns, ExpressionMismatch (Some r))
@@ -105,13 +72,13 @@ call_result_points context filled place f returns (Some r) =
 call_result_points context filled place f returns None = (not returns, ExpressionMismatch None) ∷ []
 
 -- what is asked of a call: its arguments, then its result
-abbrev pub callee_points : Context → Handles → Place → ℕ → List ℕ → Option ℕ → CallPoints
+abbrev pub callee_points : Context → Handles → VisitPlace → ℕ → List ℕ → Option ℕ → CallPoints
 callee_points context filled place f given result =
     let callee = slice_get context.program.functions f in
     all_passed_points context place (arguments_of callee) given
     ++ call_result_points context filled place f (has_result callee) result
 
 -- Call: all that inside the fault of the function
-abbrev pub call_points : Context → Handles → Place → ℕ → List ℕ → Option ℕ → Points
+abbrev pub call_points : Context → Handles → VisitPlace → ℕ → List ℕ → Option ℕ → Points
 call_points context filled place f given result =
     within (InvalidCall f) (callee_points context filled place f given result)

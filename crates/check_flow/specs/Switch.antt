@@ -9,7 +9,7 @@ use Rattle.ir_leaves.specs.declared.scalars.ScalarKind.{ScalarKind}
 use Rattle.ir_leaves.specs.declared.scalars.ScalarKind.TheVariants as kind
 use Rattle.ir_errors.specs.declared.function.FunctionError.{FunctionError}
 use Rattle.ir_errors.specs.declared.function.FunctionError.TheVariants.{InvalidSwitchType, ConflictingSwitchCase, ConflictingCaseType, MissingDefaultCase, MultipleDefaultCases, LastCaseFallTrough}
-use Rattle.naga_runs.specs.Visits.{Place}
+use Rattle.naga_runs.specs.Visits.{VisitPlace}
 use Rattle.check_scope.specs.Context.{Context}
 use Rattle.check_scope.specs.ScopePoints.{Points, use_point}
 use Rattle.check_scope.specs.ExpressionTypes.{is_integer_kind, scalar_kind_at}
@@ -56,7 +56,7 @@ last_falls_through (OneCase v falls_through body (OneCase w next_falls next rest
     last_falls_through (OneCase w next_falls next rest)
 
 -- Switch: its selector, an integer; each case value; one case is the default, and the last does not fall through
-abbrev pub switch_points : Context → Place → ℕ → Cases → Points
+abbrev pub switch_points : Context → VisitPlace → ℕ → Cases → Points
 switch_points context place h cases =
     use_point place h
     ∷ (is_integer_kind (scalar_kind_at context h), InvalidSwitchType h)

@@ -5,4 +5,5 @@
 pub mod call;
 pub mod control;
 mod digits;
+pub mod emit;
 pub mod switch;

@@ -19,9 +19,9 @@ use Rattle.ir_arena.specs.Points.{and_then, first_fault, answer}
 use Rattle.naga_runs.specs.ByTree.{judge_visits}
 use Rattle.naga_runs.specs.Handles.{Handles}
 use Rattle.naga_runs.specs.Judgement.{viewed}
-use Rattle.naga_runs.specs.Positions.{Node, NoNode, StatementNode, BreakIfNode, Position, node_at}
+use Rattle.naga_runs.specs.Positions.{BodyNode, NoNode, StatementNode, BreakIfNode, Position, node_at}
 use Rattle.naga_runs.specs.VisitOrder.{positions}
-use Rattle.naga_runs.specs.Visits.{Visit, Place, visit_at, visits_of}
+use Rattle.naga_runs.specs.Visits.{Visit, VisitPlace, visit_at, visits_of}
 use Rattle.check_laws.specs.Accepted.{nodes_of, callee_filling, callees_filling, atomic_filling, atomics_filling, ResultsAreFilledOnce, AreAmong, AreOfStatement, AreOfCallee, StagesAreOfAll, AreOfStartAndAll}
 use Rattle.check_memory.specs.Atomic.{is_atomic_result}
 use Rattle.check_scope.specs.BodyTrees.{body_of}
@@ -62,7 +62,7 @@ meet_among_first a b =
     ap (λ z. meet z a) (meet_comm a b) ∙ meet_assoc b a a ∙ ap (meet b) (among_itself a) ∙ meet_comm b a
 
 module _ (context : Context) where
-  behind_among : (s : ShaderStages) (node : Node) → AreAmong (stages_behind context s node) s
+  behind_among : (s : ShaderStages) (node : BodyNode) → AreAmong (stages_behind context s node) s
   behind_among s NoNode = among_itself s
   behind_among s (StatementNode x) = meet_among_first s (stages_of context.settings.subgroup_stages context.earlier x)
   behind_among s (BreakIfNode h) = among_itself s
@@ -72,13 +72,13 @@ module _ (context : Context) where
   left_among s (v ∷ visits) =
       among_all (stages_left context (stages_behind context s v.node) visits) (stages_behind context s v.node) s (left_among (stages_behind context s v.node) visits) (behind_among s v.node)
 
-  of_statement : (s t : ShaderStages) (node : Node) → AreAmong t (stages_behind context s node) → AreOfStatement context.settings.subgroup_stages context.earlier t node
+  of_statement : (s t : ShaderStages) (node : BodyNode) → AreAmong t (stages_behind context s node) → AreOfStatement context.settings.subgroup_stages context.earlier t node
   of_statement s t NoNode e = tt
   of_statement s t (StatementNode x) e =
       among_all t (meet s (stages_of context.settings.subgroup_stages context.earlier x)) (stages_of context.settings.subgroup_stages context.earlier x) e (meet_among_second s (stages_of context.settings.subgroup_stages context.earlier x))
   of_statement s t (BreakIfNode h) e = tt
 
-  of_callee : (t : ShaderStages) (node : Node) → AreOfStatement context.settings.subgroup_stages context.earlier t node → AreOfCallee context.earlier t node
+  of_callee : (t : ShaderStages) (node : BodyNode) → AreOfStatement context.settings.subgroup_stages context.earlier t node → AreOfCallee context.earlier t node
   of_callee t (StatementNode (Leaf acts (ir.Call f arguments result) span)) e = e
   of_callee t _ e = tt
 
@@ -88,7 +88,7 @@ module _ (context : Context) where
       let next = stages_behind context s v.node in
       (of_statement s (stages_left context next visits) v.node (left_among next visits), of_all next visits)
 
-  callees_of_all : (t : ShaderStages) (nodes : List Node) → AllByRecursion (AreOfStatement context.settings.subgroup_stages context.earlier t) nodes → AllByRecursion (AreOfCallee context.earlier t) nodes
+  callees_of_all : (t : ShaderStages) (nodes : List BodyNode) → AllByRecursion (AreOfStatement context.settings.subgroup_stages context.earlier t) nodes → AllByRecursion (AreOfCallee context.earlier t) nodes
   callees_of_all t [] a = tt
   callees_of_all t (node ∷ nodes) a = (of_callee t node a.0, callees_of_all t nodes a.1)
 
@@ -97,7 +97,7 @@ pub among_meet : (some a b : ShaderStages) → AreAmong some a → AreAmong some
 among_meet some a b p q = sym (meet_assoc some a b) ∙ ap (λ z. meet z b) p ∙ q
 
 module _ (context : Context) (some : ShaderStages) where
-  among_behind : (s : ShaderStages) (node : Node) → AreAmong some s → AreOfStatement context.settings.subgroup_stages context.earlier some node → AreAmong some (stages_behind context s node)
+  among_behind : (s : ShaderStages) (node : BodyNode) → AreAmong some s → AreOfStatement context.settings.subgroup_stages context.earlier some node → AreAmong some (stages_behind context s node)
   among_behind s NoNode p q = p
   among_behind s (StatementNode x) p q = among_meet some s (stages_of context.settings.subgroup_stages context.earlier x) p q
   among_behind s (BreakIfNode h) p q = p
@@ -120,7 +120,7 @@ nodes_are pre b (p ∷ ps) = ap (λ l. node_at b p ∷ l) (nodes_are pre b ps)
 -- results
 
 -- what a visit does with a result
-data Filling (context : Context) (filled : Handles) (r : ℕ) (node : Node) : Type 0 where
+data Filling (context : Context) (filled : Handles) (r : ℕ) (node : BodyNode) : Type 0 where
   Other : fills r node ≡ false → callee_filling r node ≡ [] → atomic_filling r node ≡ 0 → Filling context filled r node
   ByCall : (f : ℕ) → filled r ≡ false → fills r node ≡ true → expression_at context r ≡ Some (e.CallResult f) → callee_filling r node ≡ f ∷ [] → atomic_filling r node ≡ 0 → Filling context filled r node
   ByAtomic : filled r ≡ false → fills r node ≡ true → is_atomic_result (expression_at context r) ≡ true → callee_filling r node ≡ [] → atomic_filling r node ≡ 1 → Filling context filled r node
@@ -136,8 +136,8 @@ call_result f _ h = cc
 same_handle : (q r : ℕ) → (q == r) ≡ true → q ≡ r
 same_handle q r h = grind (arith, nat_tests)
 
-module _ (context : Context) (past : Past) (place : Place) (r : ℕ) where
-  filling : (node : Node) → first_fault (points_at context past place node) ≡ None → Filling context past.filled r node
+module _ (context : Context) (past : Past) (place : VisitPlace) (r : ℕ) where
+  filling : (node : BodyNode) → first_fault (points_at context past place node) ≡ None → Filling context past.filled r node
   filling (StatementNode (Leaf acts (ir.Call f xs None) span)) h = Other refl refl refl
   filling (StatementNode (Leaf acts (ir.Call f xs (Some q)) span)) h = go (q == r) refl
     where
@@ -165,14 +165,14 @@ module _ (context : Context) (past : Past) (place : Place) (r : ℕ) where
   filling _ h = Other refl refl refl
 
 -- what visits do with it, where it is filled before them or not, and is filled behind them or not
-data Filled (context : Context) (r : ℕ) (nodes : List Node) : Bool → Bool → Type 0 where
+data Filled (context : Context) (r : ℕ) (nodes : List BodyNode) : Bool → Bool → Type 0 where
   Before : callees_filling r nodes ≡ [] → atomics_filling r nodes ≡ 0 → Filled context r nodes true true
   Never : callees_filling r nodes ≡ [] → atomics_filling r nodes ≡ 0 → Filled context r nodes false false
   OnceByCall : (f : ℕ) → expression_at context r ≡ Some (e.CallResult f) → callees_filling r nodes ≡ f ∷ [] → atomics_filling r nodes ≡ 0 → Filled context r nodes false true
   OnceByAtomic : is_atomic_result (expression_at context r) ≡ true → callees_filling r nodes ≡ [] → atomics_filling r nodes ≡ 1 → Filled context r nodes false true
 
 module _ (context : Context) (r : ℕ) where
-  others : (node : Node) (nodes : List Node) (b a : Bool) → callee_filling r node ≡ [] → atomic_filling r node ≡ 0 → Filled context r nodes b a → Filled context r (node ∷ nodes) b a
+  others : (node : BodyNode) (nodes : List BodyNode) (b a : Bool) → callee_filling r node ≡ [] → atomic_filling r node ≡ 0 → Filled context r nodes b a → Filled context r (node ∷ nodes) b a
   others node nodes true false c n rest = elim rest [ ]
   others node nodes true true c n (Before cs ns) =
       Before (ap (λ l. l ++ callees_filling r nodes) c ∙ cs) (omega (arith, n, ns))
@@ -183,24 +183,24 @@ module _ (context : Context) (r : ℕ) where
   others node nodes false true c n (OnceByAtomic is cs ns) =
       OnceByAtomic is (ap (λ l. l ++ callees_filling r nodes) c ∙ cs) (omega (arith, n, ns))
 
-  was_before : (nodes : List Node) (b a : Bool) → b ≡ true → Filled context r nodes b a → (a ≡ true) × (callees_filling r nodes ≡ []) × (atomics_filling r nodes ≡ 0)
+  was_before : (nodes : List BodyNode) (b a : Bool) → b ≡ true → Filled context r nodes b a → (a ≡ true) × (callees_filling r nodes ≡ []) × (atomics_filling r nodes ≡ 0)
   was_before nodes true true is (Before cs ns) = (refl, cs, ns)
   was_before nodes true false is h = elim h [ ]
   was_before nodes false a is h = cc
 
-  by_call : (node : Node) (nodes : List Node) (f : ℕ) (b after a : Bool) → b ≡ false → after ≡ true → expression_at context r ≡ Some (e.CallResult f) → callee_filling r node ≡ f ∷ [] → atomic_filling r node ≡ 0 → Filled context r nodes after a → Filled context r (node ∷ nodes) b a
+  by_call : (node : BodyNode) (nodes : List BodyNode) (f : ℕ) (b after a : Bool) → b ≡ false → after ≡ true → expression_at context r ≡ Some (e.CallResult f) → callee_filling r node ≡ f ∷ [] → atomic_filling r node ≡ 0 → Filled context r nodes after a → Filled context r (node ∷ nodes) b a
   by_call node nodes f b after a free full is c n h =
       let rest = was_before nodes after a full h in
       let once : Filled context r (node ∷ nodes) false true = OnceByCall f is (ap (λ l. l ++ callees_filling r nodes) c ∙ ap (λ l. f ∷ l) rest.1) (omega (arith, n, rest.2)) in
       subst (λ x. Filled context r (node ∷ nodes) x a) (sym free) (subst (λ y. Filled context r (node ∷ nodes) false y) (sym rest.0) once)
 
-  by_atomic : (node : Node) (nodes : List Node) (b after a : Bool) → b ≡ false → after ≡ true → is_atomic_result (expression_at context r) ≡ true → callee_filling r node ≡ [] → atomic_filling r node ≡ 1 → Filled context r nodes after a → Filled context r (node ∷ nodes) b a
+  by_atomic : (node : BodyNode) (nodes : List BodyNode) (b after a : Bool) → b ≡ false → after ≡ true → is_atomic_result (expression_at context r) ≡ true → callee_filling r node ≡ [] → atomic_filling r node ≡ 1 → Filled context r nodes after a → Filled context r (node ∷ nodes) b a
   by_atomic node nodes b after a free full is c n h =
       let rest = was_before nodes after a full h in
       let once : Filled context r (node ∷ nodes) false true = OnceByAtomic is (ap (λ l. l ++ callees_filling r nodes) c ∙ rest.1) (omega (arith, n, rest.2)) in
       subst (λ x. Filled context r (node ∷ nodes) x a) (sym free) (subst (λ y. Filled context r (node ∷ nodes) false y) (sym rest.0) once)
 
-  step : (filled : Handles) (node : Node) (nodes : List Node) (a : Bool) → Filling context filled r node → Filled context r nodes (filled r || fills r node) a → Filled context r (node ∷ nodes) (filled r) a
+  step : (filled : Handles) (node : BodyNode) (nodes : List BodyNode) (a : Bool) → Filling context filled r node → Filled context r nodes (filled r || fills r node) a → Filled context r (node ∷ nodes) (filled r) a
   step filled node nodes a (Other free c n) rest =
       others node nodes (filled r) a c n (subst (λ b. Filled context r nodes b a) (ap (λ b. filled r || b) free ∙ or_false (filled r)) rest)
   step filled node nodes a (ByCall f free full is c n) rest =
@@ -208,7 +208,7 @@ module _ (context : Context) (r : ℕ) where
   step filled node nodes a (ByAtomic free full is c n) rest =
       by_atomic node nodes (filled r) (filled r || fills r node) a free (ap (λ b. b || fills r node) free ∙ full) is c n rest
 
-  behind_is : (st : State) (node : Node) → (state_behind context st node).filled r ≡ (st.filled r || fills r node)
+  behind_is : (st : State) (node : BodyNode) → (state_behind context st node).filled r ≡ (st.filled r || fills r node)
   behind_is st NoNode = sym (or_false (st.filled r))
   behind_is st (StatementNode x) = with_is (result_of (StatementNode x)) st.filled r
   behind_is st (BreakIfNode h) = sym (or_false (st.filled r))
@@ -232,7 +232,7 @@ module _ (context : Context) (r : ℕ) where
       let nodes = map (λ w. w.node) visits in
       step (st.filled) v.node nodes (end.filled r) (filling context (seen st) v.place r v.node both.0) (subst (λ b. Filled context r nodes b (end.filled r)) (behind_is st v.node) (along next end visits both.1))
 
-  called_once : (f : ℕ) (nodes : List Node) (b a : Bool) → b ≡ false → a ≡ true → expression_at context r ≡ Some (e.CallResult f) → Filled context r nodes b a → (callees_filling r nodes ≡ f ∷ []) × (atomics_filling r nodes ≡ 0)
+  called_once : (f : ℕ) (nodes : List BodyNode) (b a : Bool) → b ≡ false → a ≡ true → expression_at context r ≡ Some (e.CallResult f) → Filled context r nodes b a → (callees_filling r nodes ≡ f ∷ []) × (atomics_filling r nodes ≡ 0)
   called_once f nodes true false free full is rest = elim rest [ ]
   called_once f nodes true true free full is (Before cs ns) = cc
   called_once f nodes false false free full is (Never cs ns) = cc
@@ -243,7 +243,7 @@ module _ (context : Context) (r : ℕ) where
   called_once f nodes false true free full is (OnceByAtomic was cs ns) =
       let no_result : false ≡ true = ap is_atomic_result (sym is) ∙ was in cc
 
-  done_once : (ty : ℕ) (comparison : Bool) (nodes : List Node) (b a : Bool) → b ≡ false → a ≡ true → expression_at context r ≡ Some (e.AtomicResult ty comparison) → Filled context r nodes b a → (callees_filling r nodes ≡ []) × (atomics_filling r nodes ≡ 1)
+  done_once : (ty : ℕ) (comparison : Bool) (nodes : List BodyNode) (b a : Bool) → b ≡ false → a ≡ true → expression_at context r ≡ Some (e.AtomicResult ty comparison) → Filled context r nodes b a → (callees_filling r nodes ≡ []) × (atomics_filling r nodes ≡ 1)
   done_once ty comparison nodes true false free full is rest = elim rest [ ]
   done_once ty comparison nodes true true free full is (Before cs ns) = cc
   done_once ty comparison nodes false false free full is (Never cs ns) = cc

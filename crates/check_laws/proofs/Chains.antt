@@ -26,9 +26,9 @@ use Rattle.naga_runs.proofs.EachOf.{all_append}
 use Rattle.naga_runs.proofs.VisitsByTree.{visits_are}
 use Rattle.naga_runs.specs.ByTree.{past, in_case, in_loop, in_continuing, at_break_if, break_if_visits, body_visits, part_visits, case_visits}
 use Rattle.naga_runs.specs.Handles.{Handles}
-use Rattle.naga_runs.specs.Positions.{Node, NoNode, StatementNode, BreakIfNode}
+use Rattle.naga_runs.specs.Positions.{BodyNode, NoNode, StatementNode, BreakIfNode}
 use Rattle.naga_runs.specs.VisitOrder.{positions}
-use Rattle.naga_runs.specs.Visits.{Place, Visit, at_begin}
+use Rattle.naga_runs.specs.Visits.{VisitPlace, Visit, at_begin}
 use Rattle.check_laws.specs.Accepted.{nodes_of, AreAmong, AreOfStatement, AreOfCallee, StagesAreOfAll}
 use Rattle.check_scope.specs.BodyTrees.{body_of, emitted_operands}
 use Rattle.check_laws.specs.Chains.{Reaches, Calls, Through, CallsBelow, infos_below, IsVettedInfo, AreVetted, masks_of, KeepsTo, ChainsAreKept, NoneIsVetted, OneMoreIsVetted, CallsOfFittingAreBelow}
@@ -60,24 +60,24 @@ module _ (subgroups : ShaderStages) (infos : ModuleInfo) (k : ℕ) where
   mask_same (Leaf acts x span) h = leaf_same acts x span h
   mask_same _ h = refl
 
-  node_same : (stages : ShaderStages) (node : Node) → AllByRecursion (λ f. f < k) (callee_of node) →
+  node_same : (stages : ShaderStages) (node : BodyNode) → AllByRecursion (λ f. f < k) (callee_of node) →
       AreOfStatement subgroups (infos_below k infos) stages node → AreOfStatement subgroups infos stages node
   node_same stages (StatementNode x) h e = subst (λ (s : ShaderStages). AreAmong stages s) (mask_same x h) e
   node_same stages NoNode h e = tt
   node_same stages (BreakIfNode c) h e = tt
 
-  nodes_same : (stages : ShaderStages) (nodes : List Node) → AllByRecursion (λ f. f < k) (callees_of nodes) →
+  nodes_same : (stages : ShaderStages) (nodes : List BodyNode) → AllByRecursion (λ f. f < k) (callees_of nodes) →
       AllByRecursion (AreOfStatement subgroups (infos_below k infos) stages) nodes → AllByRecursion (AreOfStatement subgroups infos stages) nodes
   nodes_same stages [] h a = tt
   nodes_same stages (node ∷ nodes) h a =
       (node_same stages node (in_first (λ f. f < k) (callee_of node) (callees_of nodes) h) a.0, nodes_same stages nodes (in_second (λ f. f < k) (callee_of node) (callees_of nodes) h) a.1)
 
-  callee_same : (stages : ShaderStages) (node : Node) → AllByRecursion (λ f. f < k) (callee_of node) →
+  callee_same : (stages : ShaderStages) (node : BodyNode) → AllByRecursion (λ f. f < k) (callee_of node) →
       AreOfCallee (infos_below k infos) stages node → AreOfCallee infos stages node
   callee_same stages (StatementNode (Leaf acts (ir.Call f arguments result) span)) h e = subst (λ (s : ShaderStages). AreAmong stages s) (recorded f h.0) e
   callee_same stages _ h e = tt
 
-  callees_same : (stages : ShaderStages) (nodes : List Node) → AllByRecursion (λ f. f < k) (callees_of nodes) →
+  callees_same : (stages : ShaderStages) (nodes : List BodyNode) → AllByRecursion (λ f. f < k) (callees_of nodes) →
       AllByRecursion (AreOfCallee (infos_below k infos) stages) nodes → AllByRecursion (AreOfCallee infos stages) nodes
   callees_same stages [] h a = tt
   callees_same stages (node ∷ nodes) h a =
@@ -100,22 +100,22 @@ of_other_entries subgroups infos entries b stages a = record { statements = a.st
 
 -- stages that are among those of every statement
 module _ (subgroups : ShaderStages) (infos : ModuleInfo) where
-  fewer_of : (some all : ShaderStages) → AreAmong some all → (node : Node) → AreOfStatement subgroups infos all node → AreOfStatement subgroups infos some node
+  fewer_of : (some all : ShaderStages) → AreAmong some all → (node : BodyNode) → AreOfStatement subgroups infos all node → AreOfStatement subgroups infos some node
   fewer_of some all p (StatementNode x) e = among_all some all (stages_of subgroups infos x) p e
   fewer_of some all p NoNode e = tt
   fewer_of some all p (BreakIfNode c) e = tt
 
-  fewer : (some all : ShaderStages) → AreAmong some all → (nodes : List Node) →
+  fewer : (some all : ShaderStages) → AreAmong some all → (nodes : List BodyNode) →
       AllByRecursion (AreOfStatement subgroups infos all) nodes → AllByRecursion (AreOfStatement subgroups infos some) nodes
   fewer some all p [] a = tt
   fewer some all p (node ∷ nodes) a = (fewer_of some all p node a.0, fewer some all p nodes a.1)
 
-  callee_among : (stages : ShaderStages) (node : Node) → AreOfStatement subgroups infos stages node →
+  callee_among : (stages : ShaderStages) (node : BodyNode) → AreOfStatement subgroups infos stages node →
       AllByRecursion (λ f. AreAmong stages (callee_stages infos f)) (callee_of node)
   callee_among stages (StatementNode (Leaf acts (ir.Call f arguments result) span)) e = (e, tt)
   callee_among stages _ e = tt
 
-  callees_among : (stages : ShaderStages) (nodes : List Node) → AllByRecursion (AreOfStatement subgroups infos stages) nodes →
+  callees_among : (stages : ShaderStages) (nodes : List BodyNode) → AllByRecursion (AreOfStatement subgroups infos stages) nodes →
       AllByRecursion (λ f. AreAmong stages (callee_stages infos f)) (callees_of nodes)
   callees_among stages [] a = tt
   callees_among stages (node ∷ nodes) a =
@@ -225,21 +225,21 @@ module _ (m : Module) (n k : ℕ) where
       let rest = callees_of (map (λ (w : Visit). w.node) xs) in
       all_append P (callee_of v.node) _ (in_first P (callee_of v.node) rest a) (both_low xs ys (in_second P (callee_of v.node) rest a) b)
 
-  own_low : (c : Place) (x : Stmt) → StatementFits m n k x → AllByRecursion (λ f. f < k) (callee_of (StatementNode x))
+  own_low : (c : VisitPlace) (x : Stmt) → StatementFits m n k x → AllByRecursion (λ f. f < k) (callee_of (StatementNode x))
   own_low c (Leaf acts (ir.Call f arguments result) span) h = (h.0, tt)
   own_low c _ h = tt
 
-  condition_low : (c : Place) (q : Option ℕ) → Low (break_if_visits c q)
+  condition_low : (c : VisitPlace) (q : Option ℕ) → Low (break_if_visits c q)
   condition_low c None = tt
   condition_low c (Some h) = tt
 
   mutual
-    body_low : (c : Place) (b : Body) → BodyFits m n k b → Low (body_visits c b)
+    body_low : (c : VisitPlace) (b : Body) → BodyFits m n k b → Low (body_visits c b)
     body_low c Done h = tt
     body_low c (Then x b) h =
         all_append (λ (f : ℕ). f < k) (callee_of (StatementNode x)) _ (own_low c x h.0) (both_low (part_visits c x) (body_visits (past x c) b) (parts_low c x h.0) (body_low (past x c) b h.1))
 
-    parts_low : (c : Place) (x : Stmt) → StatementFits m n k x → Low (part_visits c x)
+    parts_low : (c : VisitPlace) (x : Stmt) → StatementFits m n k x → Low (part_visits c x)
     parts_low c (Block b) h = body_low c b h
     parts_low c (Branch q a r) h = both_low (body_visits c a) (body_visits c r) (body_low c a h.1) (body_low c r h.2)
     parts_low c (Switch q cs) h = cases_low (in_case c) cs h.1
@@ -248,7 +248,7 @@ module _ (m : Module) (n k : ℕ) where
         (both_low (body_visits (in_continuing b c) d) (break_if_visits (at_break_if b d c) q) (body_low (in_continuing b c) d h.1) (condition_low (at_break_if b d c) q))
     parts_low c _ h = tt
 
-    cases_low : (c : Place) (cs : Cases) → CasesFit m n k cs → Low (case_visits c cs)
+    cases_low : (c : VisitPlace) (cs : Cases) → CasesFit m n k cs → Low (case_visits c cs)
     cases_low c NoCase h = tt
     cases_low c (OneCase v falls b cs) h = both_low (body_visits c b) (case_visits c cs) (body_low c b h.0) (cases_low c cs h.1)
 
@@ -261,7 +261,7 @@ fits_calls_below fun m k fits f c =
     let fit = body_fits-other m (length fun.expressions) k (emitted_operands fun) no_operands fun.body fits.body in
     let nodes : map (λ v. v.node) (body_visits (at_begin no_handle) b) ≡ nodes_of b =
     ap (map (λ (v : Visit). v.node)) (sym (visits_are no_handle b)) ∙ nodes_are no_handle b (positions b) in
-    let low = subst (λ (l : List Node). AllByRecursion (λ g. g < k) (callees_of l)) nodes (body_low m (length fun.expressions) k (at_begin no_handle) b fit) in
+    let low = subst (λ (l : List BodyNode). AllByRecursion (λ g. g < k) (callees_of l)) nodes (body_low m (length fun.expressions) k (at_begin no_handle) b fit) in
     of_each (λ g. g < k) (called_by b) f low c
 
 -- infos one by one

@@ -17,10 +17,10 @@ use Rattle.naga_runs.specs.Handles.{Handles, with_handle}
 use Rattle.ir_arena.specs.Points.{Point, first_fault}
 use Rattle.naga_runs.specs.Judgement.{viewed}
 use Rattle.naga_runs.specs.Abilities.{node_jump}
-use Rattle.naga_runs.specs.Positions.{Node, NoNode, StatementNode, BreakIfNode}
+use Rattle.naga_runs.specs.Positions.{BodyNode, NoNode, StatementNode, BreakIfNode}
 use Rattle.naga_runs.specs.PutsAndUses.{node_acts}
 use Rattle.naga_runs.specs.Soundness.{Fit, Allowed, RunsAreSure}
-use Rattle.naga_runs.specs.Visits.{Place}
+use Rattle.naga_runs.specs.Visits.{VisitPlace}
 use Rattle.check_scope.specs.BodyTrees.{body_of, emitted_operands}
 use Rattle.check_scope.specs.Context.{Context, pre_emitted}
 use Rattle.check_flow.specs.walk.SwitchParts.{cases_points}
@@ -47,7 +47,7 @@ use Rattle.check_memory.proofs.Stores.{store_fits}
 use Rattle.check_subgroups.proofs.Subgroups.{ballot_fits, collective_fits, gather_fits}
 
 -- the operands of an expression may be used in front of it
-operands_fit : (place : Place) (hs : List ℕ) (rest : Points) (s t : Handles) (acts : List Act) → ((k : ℕ) → s k ≡ may_use place k) → first_fault (map (use_point place) hs ++ rest) ≡ None →
+operands_fit : (place : VisitPlace) (hs : List ℕ) (rest : Points) (s t : Handles) (acts : List Act) → ((k : ℕ) → s k ≡ may_use place k) → first_fault (map (use_point place) hs ++ rest) ≡ None →
     (first_fault rest ≡ None → Fit s t acts) → Fit s t (map Use hs ++ acts)
 operands_fit place [] rest s t acts same e next = next e
 operands_fit place (h ∷ hs) rest s t acts same e next =
@@ -55,7 +55,7 @@ operands_fit place (h ∷ hs) rest s t acts same e next =
     (same h ∙ here.0, operands_fit place hs rest s t acts same here.1 next)
 
 -- of an Emit each handle is new, also beside those before it, which its operands may be
-emit_fits : (context : Context) (place : Place) (start n h : ℕ) (s t : Handles) → start ≤ h → ((k : ℕ) → s k ≡ may_use (within_emit place start h) k) → ((k : ℕ) → h ≤ k → t k ≡ is_in_scope place k) →
+emit_fits : (context : Context) (place : VisitPlace) (start n h : ℕ) (s t : Handles) → start ≤ h → ((k : ℕ) → s k ≡ may_use (within_emit place start h) k) → ((k : ℕ) → h ≤ k → t k ≡ is_in_scope place k) →
     first_fault (emit_points_from context place start h n) ≡ None → Fit s t (emitted (emitted_operands context.fun) h n)
 emit_fits context place start zero h s t le inside same e = tt
 emit_fits context place start (suc n) h s t le inside same e =
@@ -75,15 +75,15 @@ emit_fits context place start (suc n) h s t le inside same e =
         ap (λ b. if b then true else t k) other ∙ same k (omega arith)
 
 -- in front of the first handle of a range nothing is added
-pub before_first : (place : Place) (start k : ℕ) → may_use place k ≡ may_use (within_emit place start start) k
+pub before_first : (place : VisitPlace) (start k : ℕ) → may_use place k ≡ may_use (within_emit place start start) k
 before_first place start k =
     let none : (nat_le start k && nat_lt k start) ≡ false = grind (arith, nat_tests) in
     sym (ap (λ b. may_use place k || b) none ∙ or_false (may_use place k))
 
-use_fits : (place : Place) (h : ℕ) (ps : Points) → first_fault (use_point place h ∷ ps) ≡ None → (may_use place h ≡ true)
+use_fits : (place : VisitPlace) (h : ℕ) (ps : Points) → first_fault (use_point place h ∷ ps) ≡ None → (may_use place h ≡ true)
 use_fits place h ps e = (first_holds (may_use place h) (Expression h NotInScope) ps e).0
 
-node_fits : (context : Context) (past : Past) (place : Place) (node : Node) → IsRead (emitted_operands context.fun) node → first_fault (points_at context past place node) ≡ None → Fit (may_use place) (is_in_scope place) (node_acts node) × Allowed (node_jump node) place.abilities.can_return place.abilities.can_break place.abilities.can_continue
+node_fits : (context : Context) (past : Past) (place : VisitPlace) (node : BodyNode) → IsRead (emitted_operands context.fun) node → first_fault (points_at context past place node) ≡ None → Fit (may_use place) (is_in_scope place) (node_acts node) × Allowed (node_jump node) place.abilities.can_return place.abilities.can_break place.abilities.can_continue
 node_fits context past place NoNode made e = (tt, tt)
 node_fits context past place (BreakIfNode h) made e = ((use_fits place h ((is_bool_scalar (type_at context h), InvalidIfType h) ∷ []) e, tt), tt)
 node_fits context past place (StatementNode (Leaf acts (ir.Emit r) span)) made e =

@@ -11,7 +11,7 @@ use Rattle.ir_leaves.specs.declared.scalars.ScalarKind.{ScalarKind}
 use Rattle.ir_arena.specs.Points.{within}
 use Rattle.ir_errors.specs.declared.function.FunctionError.TheVariants.{InvalidCall}
 use Rattle.naga_runs.specs.Handles.{Handles, with_handle}
-use Rattle.naga_runs.specs.Visits.{Place}
+use Rattle.naga_runs.specs.Visits.{VisitPlace}
 use Rattle.naga_runs.specs.Witnesses.{HasUnknownUse}
 use Rattle.check_flow.specs.Call.{CallPoints, arguments_of, has_result, passed_points_from, all_passed_points, call_result_points, callee_points, call_points}
 use Rattle.check_flow.specs.Control.{within_emit, emitted_points, emit_points_from, condition_points}
@@ -25,8 +25,8 @@ use Rattle.check_scope.specs.ScopePoints.{may_use, use_point, put_point}
 use Rattle.check_laws.proofs.Refused.{RefusedCall, Refused, Answered, call_more, answered_more, answered_both, first_use, later_use, after_put, after_uses}
 
 -- Emit
-module _ (context : Context) (place : Place) where
-  operands_answered : (inside : Place) (s : Handles) (hs : List ℕ) (rest : List Act) →
+module _ (context : Context) (place : VisitPlace) where
+  operands_answered : (inside : VisitPlace) (s : Handles) (hs : List ℕ) (rest : List Act) →
       ((k : ℕ) → s k ≡ may_use inside k) → Answered s (map Use hs ++ rest) ⊤ (map (use_point inside) hs)
   operands_answered inside s [] rest same = tt
   operands_answered inside s (h ∷ hs) rest same = (
@@ -73,7 +73,7 @@ within_answered : (known : Handles) (acts : List Act) (able : Type 0) (f : ℕ) 
 within_answered known acts able f [] a = tt
 within_answered known acts able f (p ∷ ps) a = (a.0, within_answered known acts able f ps a.1)
 
-passed_answered : (context : Context) (place : Place) (index : ℕ) (declared : List FunctionArgument) (given : List ℕ)
+passed_answered : (context : Context) (place : VisitPlace) (index : ℕ) (declared : List FunctionArgument) (given : List ℕ)
     (rest : List Act) → AllCall place.must (map Use given ++ rest)
     (passed_points_from context place index declared given)
 passed_answered context place index [] given rest = tt
@@ -89,12 +89,12 @@ passed_answered context place index (d ∷ declared) (g ∷ given) rest = (
   ),
 )
 
-result_answered : (context : Context) (filled : Handles) (place : Place) (f : ℕ) (returns : Bool) (result : Option ℕ)
+result_answered : (context : Context) (filled : Handles) (place : VisitPlace) (f : ℕ) (returns : Bool) (result : Option ℕ)
     (acts : List Act) → AllCall place.must acts (call_result_points context filled place f returns result)
 result_answered context filled place f returns None acts = (λ e. tt, tt)
 result_answered context filled place f returns (Some r) acts = (λ e. tt, (λ e. tt, (λ e. tt, tt)))
 
-pub call_answered : (context : Context) (filled : Handles) (place : Place) (f : ℕ) (given : List ℕ) (result : Option ℕ) →
+pub call_answered : (context : Context) (filled : Handles) (place : VisitPlace) (f : ℕ) (given : List ℕ) (result : Option ℕ) →
     Answered place.must (map Use given ++ put_if result) ⊤ (call_points context filled place f given result)
 call_answered context filled place f given result =
     within_answered place.must (map Use given ++ put_if result) ⊤ f (callee_points context filled place f given result)
@@ -109,7 +109,7 @@ call_answered context filled place f given result =
     (map Use given ++ put_if result)))
 
 -- a condition, and a Switch
-module _ (context : Context) (place : Place) where
+module _ (context : Context) (place : VisitPlace) where
   pub condition_answered : (h : ℕ) → Answered place.must (Use h ∷ []) ⊤ (condition_points context place h)
   condition_answered h = (λ e. first_use place.must [] h e, (λ e. tt, tt))
 

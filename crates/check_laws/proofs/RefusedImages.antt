@@ -10,7 +10,7 @@ use Rattle.ir_types.specs.TypeTests.{is_scalar}
 use Rattle.ir_leaves.specs.declared.images.StorageFormat.{StorageFormat}
 use Rattle.ir_leaves.specs.declared.images.StorageFormat.TheVariants as formats
 use Rattle.ir_errors.specs.declared.function.FunctionError.TheVariants.{InvalidImageAtomicValue}
-use Rattle.naga_runs.specs.Visits.{Place}
+use Rattle.naga_runs.specs.Visits.{VisitPlace}
 use Rattle.check_resources.specs.Image.{stored_format}
 use Rattle.check_resources.specs.ImageAtomic.{changed_shape, format_points, image_atomic_points}
 use Rattle.check_resources.specs.ImageStore.{image_store_points}
@@ -19,7 +19,7 @@ use Rattle.check_scope.specs.ExpressionTypes.{type_at}
 use Rattle.check_scope.specs.ScopePoints.{use_point}
 use Rattle.check_laws.proofs.Refused.{Answered, answered_both, first_use, second_use, third_use}
 
-module _ (context : Context) (place : Place) where
+module _ (context : Context) (place : VisitPlace) where
   pub image_store_answered : (i c : ℕ) (a : Option ℕ) (v : ℕ) →
       Answered place.must (Use c ∷ (used_if a ++ Use v ∷ [])) ⊤ (image_store_points context place i c a v)
   image_store_answered i c None v = (

@@ -9,7 +9,7 @@ use Rattle.ir_flags.specs.declared.capabilities.Capabilities.{Capabilities}
 use Rattle.ir_types.specs.declared.types.AddressSpace.{AddressSpace}
 use Rattle.ir_leaves.specs.declared.scalars.Scalar.{Scalar}
 use Rattle.naga_runs.specs.Handles.{Handles}
-use Rattle.naga_runs.specs.Visits.{Place}
+use Rattle.naga_runs.specs.Visits.{VisitPlace}
 use Rattle.check_memory.specs.Atomic.{atomic_scalar, atomic_space, is_int64, is_float32, scalar_points, atomic_result_points, atomic_points}
 use Rattle.check_memory.specs.Cooperative.{cooperative_points}
 use Rattle.check_memory.specs.Load.{load_points}
@@ -17,7 +17,7 @@ use Rattle.check_memory.specs.Store.{store_points}
 use Rattle.check_scope.specs.Context.{Context}
 use Rattle.check_laws.proofs.Refused.{Answered, answered_both, answered_if, first_use, second_use, third_use}
 
-module _ (context : Context) (place : Place) where
+module _ (context : Context) (place : VisitPlace) where
   scalar_answered : (acts : List Act) (capabilities : Capabilities) (s : Scalar) (p : AddressSpace)
       (fun : AtomicFunction) (has_result : Bool) →
       Answered place.must acts ⊤ (scalar_points capabilities s p fun has_result)

@@ -8,10 +8,10 @@ use Rattle.ir_statements.specs.declared.statements.Statement.{Statement}
 use Rattle.ir_statements.specs.declared.statements.Statement as ir
 use Rattle.naga_runs.specs.Abilities.{node_jump}
 use Rattle.naga_runs.specs.Guards.{IsRead}
-use Rattle.naga_runs.specs.Positions.{Node, NoNode, StatementNode, BreakIfNode}
+use Rattle.naga_runs.specs.Positions.{BodyNode, NoNode, StatementNode, BreakIfNode}
 use Rattle.naga_runs.specs.PutsAndUses.{node_acts}
 use Rattle.naga_runs.specs.Soundness.{Allowed}
-use Rattle.naga_runs.specs.Visits.{Place}
+use Rattle.naga_runs.specs.Visits.{VisitPlace}
 use Rattle.check_scope.specs.BodyTrees.{emitted_operands}
 use Rattle.check_scope.specs.Context.{Context}
 use Rattle.check_statement.specs.Past.{Past}
@@ -25,7 +25,7 @@ use Rattle.check_laws.proofs.RefusedRays.{ray_query_answered, trace_ray_answered
 use Rattle.check_laws.proofs.RefusedSubgroups.{ballot_answered, collective_answered, gather_answered, barrier_answered}
 
 -- whether what stands there has its ability
-abbrev pub Able : Place → Node → Type 0
+abbrev pub Able : VisitPlace → BodyNode → Type 0
 Able place node =
     Allowed (node_jump node) place.abilities.can_return place.abilities.can_break place.abilities.can_continue
 
@@ -33,7 +33,7 @@ lacking : (b : Bool) → b ≡ false → b ≡ true → ⊥
 lacking true e f = cc
 lacking false e f = cc
 
-leaf_answered : (context : Context) (past : Past) (place : Place) (x : Statement) →
+leaf_answered : (context : Context) (past : Past) (place : VisitPlace) (x : Statement) →
     Answered place.must (statement_acts (emitted_operands context.fun) x) ⊤ (leaf_points context past place x)
 leaf_answered context past place (ir.Emit r) =
     emit_answered context place r.start (r.end - r.start) r.start place.must (omega arith)
@@ -55,7 +55,7 @@ leaf_answered context past place (ir.ControlBarrier b) = barrier_answered contex
 leaf_answered context past place (ir.MemoryBarrier b) = barrier_answered context place b
 leaf_answered context past place _ = tt
 
-pub node_answered : (context : Context) (past : Past) (place : Place) (node : Node) →
+pub node_answered : (context : Context) (past : Past) (place : VisitPlace) (node : BodyNode) →
     IsRead (emitted_operands context.fun) node →
     Answered place.must (node_acts node) (Able place node) (points_at context past place node)
 node_answered context past place NoNode made = tt

@@ -5,13 +5,13 @@ use Rattle.ir_statements.specs.Tree.{Use}
 use Rattle.ir_statements.specs.View.{query_acts}
 use Rattle.ir_statements.specs.declared.operations.RayQueryFunction.{RayQueryFunction}
 use Rattle.ir_statements.specs.declared.operations.RayQueryFunction.TheVariants as query
-use Rattle.naga_runs.specs.Visits.{Place}
+use Rattle.naga_runs.specs.Visits.{VisitPlace}
 use Rattle.check_resources.specs.RayQuery.{ray_query_points}
 use Rattle.check_resources.specs.RayTrace.{trace_ray_points}
 use Rattle.check_scope.specs.Context.{Context}
 use Rattle.check_laws.proofs.Refused.{Answered, first_use, second_use, third_use}
 
-module _ (context : Context) (place : Place) where
+module _ (context : Context) (place : VisitPlace) where
   pub ray_query_answered : (q : ℕ) (fun : RayQueryFunction) →
       Answered place.must (query_acts fun) ⊤ (ray_query_points context place q fun)
   ray_query_answered q (query.Initialize a d) = (

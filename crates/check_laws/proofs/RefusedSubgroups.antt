@@ -8,7 +8,7 @@ use Rattle.ir_statements.specs.declared.operations.GatherMode.TheVariants as gat
 use Rattle.ir_flags.specs.declared.ir.Barrier.{Barrier}
 use Rattle.ir_statements.specs.declared.operations.CollectiveOperation.{CollectiveOperation}
 use Rattle.ir_statements.specs.declared.operations.SubgroupOperation.{SubgroupOperation}
-use Rattle.naga_runs.specs.Visits.{Place}
+use Rattle.naga_runs.specs.Visits.{VisitPlace}
 use Rattle.check_scope.specs.Context.{Context}
 use Rattle.check_subgroups.specs.Barrier.{is_of_subgroup, barrier_points}
 use Rattle.check_subgroups.specs.Subgroup.{ballot_points}
@@ -17,7 +17,7 @@ use Rattle.check_subgroups.specs.SubgroupGather.{index_points, gather_points}
 use Rattle.check_subgroups.specs.walk.SubgroupParts.{gathered_points}
 use Rattle.check_laws.proofs.Refused.{Answered, answered_if, first_use, second_use}
 
-module _ (context : Context) (place : Place) where
+module _ (context : Context) (place : VisitPlace) where
   pub ballot_answered : (r : ℕ) (predicate : Option ℕ) →
       Answered place.must (used_if predicate ++ Put r ∷ []) ⊤ (ballot_points context place r predicate)
   ballot_answered r None = (λ e. tt, (λ e. tt, (λ e. tt, tt)))

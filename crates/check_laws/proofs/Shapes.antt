@@ -21,9 +21,9 @@ use Rattle.ir_errors.specs.declared.expression.ExpressionError.TheVariants.{NotI
 use Rattle.naga_runs.proofs.LastSteps.{abilities_by_last_step}
 use Rattle.naga_runs.specs.ByTree.{judge_visits}
 use Rattle.naga_runs.specs.Handles.{Handles}
-use Rattle.naga_runs.specs.Positions.{Node, StatementNode, Position, node_at}
+use Rattle.naga_runs.specs.Positions.{BodyNode, StatementNode, Position, node_at}
 use Rattle.naga_runs.specs.VisitOrder.{positions}
-use Rattle.naga_runs.specs.Visits.{Place, Visit, at_begin, place_from, visit_at}
+use Rattle.naga_runs.specs.Visits.{VisitPlace, Visit, at_begin, place_from, visit_at}
 use Rattle.check_scope.specs.BodyTrees.{body_of}
 use Rattle.check_flow.specs.walk.SwitchParts.{cases_points}
 use Rattle.check_scope.specs.Context.{Context, pre_emitted}
@@ -142,7 +142,7 @@ module _ (k : Option ScalarKind) where
       }
 
 -- the points of a visit hold, whatever the visits before it did
-record Passes (context : Context) (place : Place) (node : Node) : Type 0 where
+record Passes (context : Context) (place : VisitPlace) (node : BodyNode) : Type 0 where
   past : Past
   holds : first_fault (points_at context past place node) ≡ None
 
@@ -159,13 +159,13 @@ module _ (context : Context) where
       let both = one_passes (first_fault (points_at context (seen st) v.place v.node)) next end (λ s. judge_visits (kept_rules context) s visits) h in
       (record { past = seen st; holds = both.0 }, each_passes next end visits both.1)
 
-  able : (past : Past) (place : Place) (value : Option ℕ) → first_fault (points_at context past place (StatementNode (Return value))) ≡ None → place.abilities.can_return ≡ true
+  able : (past : Past) (place : VisitPlace) (value : Option ℕ) → first_fault (points_at context past place (StatementNode (Return value))) ≡ None → place.abilities.can_return ≡ true
   able past place None e =
       (first_holds place.abilities.can_return InvalidReturnSpot ((is_none (declared_type context), InvalidReturnType None (declared_type context)) ∷ []) e).0
   able past place (Some h) e =
       (first_holds place.abilities.can_return InvalidReturnSpot (use_point place h ∷ (is_returned_as context h (declared_type context), InvalidReturnType (Some h) (declared_type context)) ∷ []) e).0
 
-  switch_whole : (past : Past) (place : Place) (h : ℕ) (cases : Cases) → first_fault (points_at context past place (StatementNode (Switch h cases))) ≡ None → AreWhole (scalar_kind_at context h) cases
+  switch_whole : (past : Past) (place : VisitPlace) (h : ℕ) (cases : Cases) → first_fault (points_at context past place (StatementNode (Switch h cases))) ≡ None → AreWhole (scalar_kind_at context h) cases
   switch_whole past place h cases e =
       let k = scalar_kind_at context h in
       let behind = value_points k [] (values_of cases) ++ cases_points cases in
@@ -182,7 +182,7 @@ module _ (context : Context) where
     abbrev body : Body
     body = body_of context.fun
 
-    abbrev place_at : Position → Place
+    abbrev place_at : Position → VisitPlace
     place_at p = place_from (at_begin (pre_emitted context)) body p
 
     at_each : (p : Position) (x : Stmt) → StandsAt body p x → Passes context (place_at p) (StatementNode x)

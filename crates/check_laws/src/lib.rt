@@ -2,6 +2,6 @@
 //! Users import the laws from `naga_valid`.
 #![tactic(auto)]
 
-pub mod laws;
+mod laws;
 
 pub use crate::laws::{chains_law, entry_law, function_law};

@@ -10,7 +10,7 @@ use Rattle.ir_statements.specs.declared.operations.AtomicFunction.TheVariants.{E
 use Rattle.ir_leaves.specs.declared.scalars.Scalar.{Scalar}
 use Rattle.naga_runs.specs.Handles.{Handles}
 use Rattle.naga_runs.specs.Soundness.{Fit}
-use Rattle.naga_runs.specs.Visits.{Place}
+use Rattle.naga_runs.specs.Visits.{VisitPlace}
 use Rattle.check_memory.specs.Atomic.{atomic_scalar, atomic_space, scalar_points, is_atomic_result, atomic_result_points, atomic_points}
 use Rattle.check_scope.specs.Context.{Context}
 use Rattle.naga_runs.specs.PutsAndUses.{puts_of}
@@ -20,12 +20,12 @@ use Rattle.check_scope.specs.ExpressionTypes.{expression_at}
 use Rattle.check_scope.proofs.Flat.{holds_at, holds_behind}
 
 -- what holds of a result that is named
-pub record NamedHolds (context : Context) (filled : Handles) (place : Place) (r : ℕ) : Type 0 where
+pub record NamedHolds (context : Context) (filled : Handles) (place : VisitPlace) (r : ℕ) : Type 0 where
   pub kind : is_atomic_result (expression_at context r) ≡ true
   pub fresh : is_fresh context filled r ≡ true
   pub new : is_in_scope place r ≡ false
 
-module _ (context : Context) (filled : Handles) (place : Place) (s : Scalar) (value : ℕ) where
+module _ (context : Context) (filled : Handles) (place : VisitPlace) (s : Scalar) (value : ℕ) where
   result_holds : (fun : AtomicFunction) (named : Option ℕ) → first_fault (atomic_result_points context filled place s fun value named) ≡ None →
       IfSome named (NamedHolds context filled place) × Fit (may_use place) (is_in_scope place) (atomic_acts fun named)
   result_holds fun None e = (tt, tt)
@@ -38,7 +38,7 @@ module _ (context : Context) (filled : Handles) (place : Place) (s : Scalar) (va
       let new = not_holds (is_in_scope place r) (holds_at 4 points e) in
       (record { kind = holds_at 0 points e; fresh = holds_at 1 points e; new = new }, (new, tt))
 
-module _ (context : Context) (filled : Handles) (place : Place) (pointer : ℕ) (fun : AtomicFunction) (value : ℕ) (named : Option ℕ) (e : first_fault (atomic_points context filled place pointer fun value named) ≡ None) where
+module _ (context : Context) (filled : Handles) (place : VisitPlace) (pointer : ℕ) (fun : AtomicFunction) (value : ℕ) (named : Option ℕ) (e : first_fault (atomic_points context filled place pointer fun value named) ≡ None) where
   all_hold : IfSome named (NamedHolds context filled place) × Fit (may_use place) (is_in_scope place) (Use pointer ∷ Use value ∷ atomic_acts fun named)
   all_hold =
       let points = atomic_points context filled place pointer fun value named in
@@ -55,7 +55,7 @@ module _ (context : Context) (filled : Handles) (place : Place) (pointer : ℕ) 
   atomic_fits = all_hold.1
 
 -- a result that is named is not in scope before
-pub atomic_is_new : (context : Context) (filled : Handles) (place : Place) (named : Option ℕ) → IfSome named (NamedHolds context filled place) → IfSome named (λ r. is_in_scope place r ≡ false)
+pub atomic_is_new : (context : Context) (filled : Handles) (place : VisitPlace) (named : Option ℕ) → IfSome named (NamedHolds context filled place) → IfSome named (λ r. is_in_scope place r ≡ false)
 atomic_is_new context filled place None h = tt
 atomic_is_new context filled place (Some r) h = h.new
 

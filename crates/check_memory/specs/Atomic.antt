@@ -16,13 +16,13 @@ use Rattle.ir_types.specs.declared.types.Type.{«Type» as IrType}
 use Rattle.ir_types.specs.declared.types.TypeInner.{TypeInner}
 use Rattle.ir_types.specs.declared.types.TypeInner.TheVariants as inner
 use Rattle.ir_flags.specs.declared.capabilities.Capabilities.{Capabilities}
-use Rattle.check_variables.specs.Spaces.{is_storage}
+use Rattle.ir_types.specs.SpaceTests.{is_storage}
 use Rattle.ir_errors.specs.declared.function.AtomicError.{AtomicError}
 use Rattle.ir_errors.specs.declared.function.AtomicError.TheVariants as wrong
 use Rattle.ir_errors.specs.declared.function.FunctionError.{FunctionError}
 use Rattle.ir_errors.specs.declared.function.FunctionError.TheVariants.{InvalidAtomic}
 use Rattle.naga_runs.specs.Handles.{Handles}
-use Rattle.naga_runs.specs.Visits.{Place}
+use Rattle.naga_runs.specs.Visits.{VisitPlace}
 use Rattle.ir_arena.specs.Points.{Point}
 use Rattle.check_scope.specs.Context.{Context}
 use Rattle.check_scope.specs.ScopePoints.{Points, use_point, put_point}
@@ -103,117 +103,18 @@ scalar_points capabilities s p fun has_result =
     else []
 
 abbrev pub is_atomic_result : Option Expression → Bool
-is_atomic_result None = false
 is_atomic_result (Some (e.AtomicResult ty comparison)) = true
-is_atomic_result (Some (e.Literal l)) = false
-is_atomic_result (Some (e.Constant h)) = false
-is_atomic_result (Some (e.Override h)) = false
-is_atomic_result (Some (e.ZeroValue ty)) = false
-is_atomic_result (Some (e.Compose ty components)) = false
-is_atomic_result (Some (e.Access base index)) = false
-is_atomic_result (Some (e.AccessIndex base index)) = false
-is_atomic_result (Some (e.FunctionArgument i)) = false
-is_atomic_result (Some (e.GlobalVariable h)) = false
-is_atomic_result (Some (e.LocalVariable h)) = false
-is_atomic_result (Some (e.Load pointer)) = false
-is_atomic_result (Some (e.CallResult f)) = false
-is_atomic_result (Some (e.WorkGroupUniformLoadResult ty)) = false
-is_atomic_result (Some e.RayQueryProceedResult) = false
-is_atomic_result (Some e.SubgroupBallotResult) = false
-is_atomic_result (Some (e.SubgroupOperationResult ty)) = false
-is_atomic_result (Some (e.Splat detail operands)) = false
-is_atomic_result (Some (e.Swizzle detail operands)) = false
-is_atomic_result (Some (e.ImageSample detail operands)) = false
-is_atomic_result (Some (e.ImageLoad detail operands)) = false
-is_atomic_result (Some (e.ImageQuery detail operands)) = false
-is_atomic_result (Some (e.Unary detail operands)) = false
-is_atomic_result (Some (e.Binary detail operands)) = false
-is_atomic_result (Some (e.Select detail operands)) = false
-is_atomic_result (Some (e.Derivative detail operands)) = false
-is_atomic_result (Some (e.Relational detail operands)) = false
-is_atomic_result (Some (e.Math detail operands)) = false
-is_atomic_result (Some (e.As detail operands)) = false
-is_atomic_result (Some (e.ArrayLength detail operands)) = false
-is_atomic_result (Some (e.RayQueryGetIntersection detail operands)) = false
-is_atomic_result (Some (e.RayQueryVertexPositions detail operands)) = false
-is_atomic_result (Some (e.CooperativeLoad detail operands)) = false
-is_atomic_result (Some (e.CooperativeMultiplyAdd detail operands)) = false
+is_atomic_result _ = false
 
 -- whether an atomic result is that of a compare exchange
 abbrev pub is_comparison : Option Expression → Bool
-is_comparison None = false
 is_comparison (Some (e.AtomicResult ty comparison)) = comparison
-is_comparison (Some (e.Literal l)) = false
-is_comparison (Some (e.Constant h)) = false
-is_comparison (Some (e.Override h)) = false
-is_comparison (Some (e.ZeroValue ty)) = false
-is_comparison (Some (e.Compose ty components)) = false
-is_comparison (Some (e.Access base index)) = false
-is_comparison (Some (e.AccessIndex base index)) = false
-is_comparison (Some (e.FunctionArgument i)) = false
-is_comparison (Some (e.GlobalVariable h)) = false
-is_comparison (Some (e.LocalVariable h)) = false
-is_comparison (Some (e.Load pointer)) = false
-is_comparison (Some (e.CallResult f)) = false
-is_comparison (Some (e.WorkGroupUniformLoadResult ty)) = false
-is_comparison (Some e.RayQueryProceedResult) = false
-is_comparison (Some e.SubgroupBallotResult) = false
-is_comparison (Some (e.SubgroupOperationResult ty)) = false
-is_comparison (Some (e.Splat detail operands)) = false
-is_comparison (Some (e.Swizzle detail operands)) = false
-is_comparison (Some (e.ImageSample detail operands)) = false
-is_comparison (Some (e.ImageLoad detail operands)) = false
-is_comparison (Some (e.ImageQuery detail operands)) = false
-is_comparison (Some (e.Unary detail operands)) = false
-is_comparison (Some (e.Binary detail operands)) = false
-is_comparison (Some (e.Select detail operands)) = false
-is_comparison (Some (e.Derivative detail operands)) = false
-is_comparison (Some (e.Relational detail operands)) = false
-is_comparison (Some (e.Math detail operands)) = false
-is_comparison (Some (e.As detail operands)) = false
-is_comparison (Some (e.ArrayLength detail operands)) = false
-is_comparison (Some (e.RayQueryGetIntersection detail operands)) = false
-is_comparison (Some (e.RayQueryVertexPositions detail operands)) = false
-is_comparison (Some (e.CooperativeLoad detail operands)) = false
-is_comparison (Some (e.CooperativeMultiplyAdd detail operands)) = false
+is_comparison _ = false
 
 -- the type that an atomic result is declared with
 abbrev pub result_type_of : List IrType → Option Expression → Option TypeInner
-result_type_of types None = None
 result_type_of types (Some (e.AtomicResult ty comparison)) = inner_at types ty
-result_type_of types (Some (e.Literal l)) = None
-result_type_of types (Some (e.Constant h)) = None
-result_type_of types (Some (e.Override h)) = None
-result_type_of types (Some (e.ZeroValue ty)) = None
-result_type_of types (Some (e.Compose ty components)) = None
-result_type_of types (Some (e.Access base index)) = None
-result_type_of types (Some (e.AccessIndex base index)) = None
-result_type_of types (Some (e.FunctionArgument i)) = None
-result_type_of types (Some (e.GlobalVariable h)) = None
-result_type_of types (Some (e.LocalVariable h)) = None
-result_type_of types (Some (e.Load pointer)) = None
-result_type_of types (Some (e.CallResult f)) = None
-result_type_of types (Some (e.WorkGroupUniformLoadResult ty)) = None
-result_type_of types (Some e.RayQueryProceedResult) = None
-result_type_of types (Some e.SubgroupBallotResult) = None
-result_type_of types (Some (e.SubgroupOperationResult ty)) = None
-result_type_of types (Some (e.Splat detail operands)) = None
-result_type_of types (Some (e.Swizzle detail operands)) = None
-result_type_of types (Some (e.ImageSample detail operands)) = None
-result_type_of types (Some (e.ImageLoad detail operands)) = None
-result_type_of types (Some (e.ImageQuery detail operands)) = None
-result_type_of types (Some (e.Unary detail operands)) = None
-result_type_of types (Some (e.Binary detail operands)) = None
-result_type_of types (Some (e.Select detail operands)) = None
-result_type_of types (Some (e.Derivative detail operands)) = None
-result_type_of types (Some (e.Relational detail operands)) = None
-result_type_of types (Some (e.Math detail operands)) = None
-result_type_of types (Some (e.As detail operands)) = None
-result_type_of types (Some (e.ArrayLength detail operands)) = None
-result_type_of types (Some (e.RayQueryGetIntersection detail operands)) = None
-result_type_of types (Some (e.RayQueryVertexPositions detail operands)) = None
-result_type_of types (Some (e.CooperativeLoad detail operands)) = None
-result_type_of types (Some (e.CooperativeMultiplyAdd detail operands)) = None
+result_type_of types _ = None
 
 abbrev pub result_type_at : Context → ℕ → Option TypeInner
 result_type_at context r = result_type_of context.program.types (expression_at context r)
@@ -232,7 +133,7 @@ is_exchange_result context s r = it_is (is_exchange_struct context.program.types
 
 -- the result, if there is one: an atomic result, fresh, and of the right type; then it is put. Of a compare exchange, what
 -- is compared with comes before the type. Without a result: no exchange that compares nothing
-abbrev pub atomic_result_points : Context → Handles → Place → Scalar → AtomicFunction → ℕ → Option ℕ → Points
+abbrev pub atomic_result_points : Context → Handles → VisitPlace → Scalar → AtomicFunction → ℕ → Option ℕ → Points
 atomic_result_points context filled place s fun value None =
     atomic_point (not (is_plain_exchange fun)) wrong.MissingReturnValue ∷ []
 atomic_result_points context filled place s (Exchange (Some compare)) value (Some r) =
@@ -253,7 +154,7 @@ atomic_result_points context filled place s fun value (Some r) =
     ∷ []
 
 -- Atomic: its pointer, its value, what the scalar asks for, and its result
-abbrev pub atomic_points : Context → Handles → Place → ℕ → AtomicFunction → ℕ → Option ℕ → Points
+abbrev pub atomic_points : Context → Handles → VisitPlace → ℕ → AtomicFunction → ℕ → Option ℕ → Points
 atomic_points context filled place pointer fun value result =
     let s = atomic_scalar context pointer in
     use_point place pointer

@@ -6,7 +6,7 @@ use Rattle.ir_leaves.specs.declared.scalars.Scalar.{Scalar}
 use Rattle.ir_types.specs.declared.types.TypeInner.{TypeInner}
 use Rattle.ir_types.specs.declared.types.TypeInner.TheVariants as inner
 use Rattle.ir_errors.specs.declared.function.FunctionError.TheVariants.{InvalidCooperativeStoreTarget, InvalidCooperativeDataPointer, InvalidStorePointer}
-use Rattle.naga_runs.specs.Visits.{Place}
+use Rattle.naga_runs.specs.Visits.{VisitPlace}
 use Rattle.check_scope.specs.Context.{Context}
 use Rattle.check_scope.specs.ScopePoints.{Points, use_point}
 use Rattle.check_scope.specs.Pointers.{base_type_at, is_writable}
@@ -31,7 +31,7 @@ are_same_scalars (Some a) (Some b) = (scalar.ghosts).eq a b
 are_same_scalars _ _ = false
 
 -- CooperativeStore: its target, a cooperative matrix; the pointer points to its scalar, and its space takes stores
-abbrev pub cooperative_points : Context → Place → ℕ → ℕ → Points
+abbrev pub cooperative_points : Context → VisitPlace → ℕ → ℕ → Points
 cooperative_points context place target pointer =
     use_point place target
     ∷ (is_some (matrix_scalar_at context target), InvalidCooperativeStoreTarget target)

@@ -8,7 +8,7 @@ use Rattle.ir_types.specs.declared.types.TypeInner.TheVariants as inner
 use Rattle.ir_types.specs.declared.typifier.TypeResolution.{TypeResolution}
 use Rattle.ir_errors.specs.declared.function.FunctionError.{FunctionError}
 use Rattle.ir_errors.specs.declared.function.FunctionError.TheVariants.{InvalidStorePointer, InvalidStoreTexture, InvalidStoreTypes}
-use Rattle.naga_runs.specs.Visits.{Place}
+use Rattle.naga_runs.specs.Visits.{VisitPlace}
 use Rattle.check_scope.specs.Context.{Context}
 use Rattle.check_scope.specs.Pointers.{base_type_at, is_writable}
 use Rattle.check_scope.specs.Roots.{root_at}
@@ -76,7 +76,7 @@ is_stored_as context value (Some base) = is_held_by context value base (resolved
 
 -- Store: its pointer leads back to a variable or an argument; its value, which is no texture; the type that is pointed to
 -- holds it, and its space takes stores
-abbrev pub store_points : Context → Place → ℕ → ℕ → Points
+abbrev pub store_points : Context → VisitPlace → ℕ → ℕ → Points
 store_points context place pointer value =
     (is_variable (expression_at context (root_at context pointer)), InvalidStorePointer (root_at context pointer))
     ∷ use_point place value

@@ -7,7 +7,6 @@ ghost use Rattle.naga_runs.specs.PutsAndUses.{puts_of};
 ghost use Rattle.check_scope.specs.walk.Findings.{RefusesFaultsAlone};
 ghost use Rattle.ir_facts.specs.Answers.{Answers, Finds, FirstOf};
 ghost use Rattle.check_memory.specs.Atomic.{atomic_scalar_at, is_int64, is_float32, is_plain_exchange, is_done_on_floats, int64_capability, scalar_points, is_atomic_result, is_comparison, result_type_at, atomic_result_points, atomic_points};
-ghost use Rattle.check_variables.specs.Spaces.{is_storage};
 ghost use Rattle.check_memory.specs.walk.AtomicParts.{operated_points, compared_points, exchanged_points, uncompared_points};
 ghost use Rattle.check_scope.specs.Context.{ContextFits};
 ghost use Rattle.check_scope.specs.walk.Place.{place_at};
@@ -18,7 +17,7 @@ use check_scope::context::BlockContext;
 use check_scope::refuse::{answer, check_put, check_use};
 use check_scope::results::is_fresh;
 use check_scope::table::{FilledColumn, ScopeColumn};
-use check_scope::types::{inner_at, is_equivalent, is_exchange_struct, is_integer_kind, is_scalar};
+use check_scope::types::{is_equivalent, is_exchange_struct, is_integer_kind, is_scalar};
 use ir_arena::handle::Handle;
 use ir_arena::span::Span;
 use ir_arena::{Refused, tag};
@@ -27,6 +26,7 @@ use ir_flags::capabilities::Capabilities;
 use ir_leaves::scalars::{Scalar, ScalarKind};
 use ir_module::expressions::Expression;
 use ir_statements::operations::AtomicFunction;
+use ir_types::type_methods::inner_at;
 use ir_types::types::{AddressSpace, TypeInner};
 
 /// An atomic operation: where the atomic is, what is done to it, with which value, and the result that is named, if one is.
@@ -89,7 +89,7 @@ fn check_atomic(
     let Some(TypeInner::Pointer { base, space }) = context.type_inner(pointer) else {
         return Err(FunctionError::InvalidAtomic(AtomicError::InvalidPointer(pointer)));
     };
-    let Some(TypeInner::Atomic(scalar)) = inner_at(context, *base) else {
+    let Some(TypeInner::Atomic(scalar)) = inner_at(context.program.types.as_slice(), *base) else {
         return Err(FunctionError::InvalidAtomic(AtomicError::InvalidPointer(pointer)));
     };
     check_use(scope, value)?;
@@ -113,7 +113,7 @@ pub(crate) fn atomic_scalar(
     let Some(TypeInner::Pointer { base, .. }) = context.type_inner(pointer) else {
         return None;
     };
-    match inner_at(context, *base) {
+    match inner_at(context.program.types.as_slice(), *base) {
         Some(TypeInner::Atomic(scalar)) => Some(*scalar),
         _ => None,
     }
@@ -167,7 +167,7 @@ fn check_scalar(
         if !is_done_on_floats(fun) {
             return Err(FunctionError::InvalidAtomic(AtomicError::InvalidOperator(*fun)));
         }
-        if !is_storage(space) {
+        if !space.is_storage() {
             return Err(FunctionError::InvalidAtomic(AtomicError::InvalidAddressSpace(*space)));
         }
     }
@@ -190,27 +190,10 @@ fn is_float32(scalar: Scalar) -> bool
 fn int64_capability(fun: &AtomicFunction, space: &AddressSpace, has_result: bool) -> Capabilities
     ensures { result ≡ int64_capability fun.now space.now has_result }
 {
-    if fun.is_min_or_max() && is_storage(space) && !has_result {
+    if fun.is_min_or_max() && space.is_storage() && !has_result {
         Capabilities::SHADER_INT64_ATOMIC_MIN_MAX
     } else {
         Capabilities::SHADER_INT64_ATOMIC_ALL_OPS
-    }
-}
-
-fn is_storage(space: &AddressSpace) -> bool
-    ensures { result ≡ is_storage space.now }
-{
-    match space {
-        AddressSpace::Storage { .. } => true,
-        AddressSpace::Function
-        | AddressSpace::Private
-        | AddressSpace::WorkGroup
-        | AddressSpace::Uniform
-        | AddressSpace::Handle
-        | AddressSpace::Immediate
-        | AddressSpace::TaskPayload
-        | AddressSpace::RayPayload
-        | AddressSpace::IncomingRayPayload => false,
     }
 }
 
@@ -272,45 +255,7 @@ fn is_plain_exchange(fun: &AtomicFunction) -> bool
 fn is_atomic_result(expression: Option<&Expression>) -> bool
     ensures { result ≡ is_atomic_result (option_copied expression.entry) }
 {
-    match expression {
-        None => false,
-        Some(Expression::AtomicResult { .. }) => true,
-        Some(
-            Expression::Literal(_)
-            | Expression::Constant(_)
-            | Expression::Override(_)
-            | Expression::ZeroValue(_)
-            | Expression::Compose { .. }
-            | Expression::Access { .. }
-            | Expression::AccessIndex { .. }
-            | Expression::FunctionArgument(_)
-            | Expression::GlobalVariable(_)
-            | Expression::LocalVariable(_)
-            | Expression::Load { .. }
-            | Expression::CallResult(_)
-            | Expression::WorkGroupUniformLoadResult { .. }
-            | Expression::RayQueryProceedResult
-            | Expression::SubgroupBallotResult
-            | Expression::SubgroupOperationResult { .. }
-            | Expression::Splat { .. }
-            | Expression::Swizzle { .. }
-            | Expression::ImageSample { .. }
-            | Expression::ImageLoad { .. }
-            | Expression::ImageQuery { .. }
-            | Expression::Unary { .. }
-            | Expression::Binary { .. }
-            | Expression::Select { .. }
-            | Expression::Derivative { .. }
-            | Expression::Relational { .. }
-            | Expression::Math { .. }
-            | Expression::As { .. }
-            | Expression::ArrayLength { .. }
-            | Expression::RayQueryGetIntersection { .. }
-            | Expression::RayQueryVertexPositions { .. }
-            | Expression::CooperativeLoad { .. }
-            | Expression::CooperativeMultiplyAdd { .. },
-        ) => false,
-    }
+    matches!(expression, Some(Expression::AtomicResult { .. }))
 }
 
 /// What a compare exchange compares with.
@@ -390,43 +335,11 @@ fn result_type<'a>(
     ensures { option_copied result ≡ result_type_at (context_of context.now) handle }
 {
     match context.expression(handle) {
-        None => None,
-        Some(Expression::AtomicResult { ty, .. }) => inner_at(context, *ty),
-        Some(
-            Expression::Literal(_)
-            | Expression::Constant(_)
-            | Expression::Override(_)
-            | Expression::ZeroValue(_)
-            | Expression::Compose { .. }
-            | Expression::Access { .. }
-            | Expression::AccessIndex { .. }
-            | Expression::FunctionArgument(_)
-            | Expression::GlobalVariable(_)
-            | Expression::LocalVariable(_)
-            | Expression::Load { .. }
-            | Expression::CallResult(_)
-            | Expression::WorkGroupUniformLoadResult { .. }
-            | Expression::RayQueryProceedResult
-            | Expression::SubgroupBallotResult
-            | Expression::SubgroupOperationResult { .. }
-            | Expression::Splat { .. }
-            | Expression::Swizzle { .. }
-            | Expression::ImageSample { .. }
-            | Expression::ImageLoad { .. }
-            | Expression::ImageQuery { .. }
-            | Expression::Unary { .. }
-            | Expression::Binary { .. }
-            | Expression::Select { .. }
-            | Expression::Derivative { .. }
-            | Expression::Relational { .. }
-            | Expression::Math { .. }
-            | Expression::As { .. }
-            | Expression::ArrayLength { .. }
-            | Expression::RayQueryGetIntersection { .. }
-            | Expression::RayQueryVertexPositions { .. }
-            | Expression::CooperativeLoad { .. }
-            | Expression::CooperativeMultiplyAdd { .. },
-        ) => None,
+        Some(Expression::AtomicResult { ty, .. }) => inner_at(
+            context.program.types.as_slice(),
+            *ty,
+        ),
+        _ => None,
     }
 }
 
@@ -435,42 +348,7 @@ fn is_comparison(expression: Option<&Expression>) -> bool
     ensures { result ≡ is_comparison (option_copied expression.entry) }
 {
     match expression {
-        None => false,
         Some(Expression::AtomicResult { comparison, .. }) => *comparison,
-        Some(
-            Expression::Literal(_)
-            | Expression::Constant(_)
-            | Expression::Override(_)
-            | Expression::ZeroValue(_)
-            | Expression::Compose { .. }
-            | Expression::Access { .. }
-            | Expression::AccessIndex { .. }
-            | Expression::FunctionArgument(_)
-            | Expression::GlobalVariable(_)
-            | Expression::LocalVariable(_)
-            | Expression::Load { .. }
-            | Expression::CallResult(_)
-            | Expression::WorkGroupUniformLoadResult { .. }
-            | Expression::RayQueryProceedResult
-            | Expression::SubgroupBallotResult
-            | Expression::SubgroupOperationResult { .. }
-            | Expression::Splat { .. }
-            | Expression::Swizzle { .. }
-            | Expression::ImageSample { .. }
-            | Expression::ImageLoad { .. }
-            | Expression::ImageQuery { .. }
-            | Expression::Unary { .. }
-            | Expression::Binary { .. }
-            | Expression::Select { .. }
-            | Expression::Derivative { .. }
-            | Expression::Relational { .. }
-            | Expression::Math { .. }
-            | Expression::As { .. }
-            | Expression::ArrayLength { .. }
-            | Expression::RayQueryGetIntersection { .. }
-            | Expression::RayQueryVertexPositions { .. }
-            | Expression::CooperativeLoad { .. }
-            | Expression::CooperativeMultiplyAdd { .. },
-        ) => false,
+        _ => false,
     }
 }

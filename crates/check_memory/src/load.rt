@@ -4,7 +4,7 @@ ghost use Rattle.std.specs.Prelude.{◌≡◌, ◌<◌, ◌∷◌, [], OnOk, IfS
 ghost use Rattle.check_scope.specs.walk.Findings.{RefusesFaultsAlone};
 ghost use Rattle.ir_facts.specs.Answers.{Answers, Finds, FirstOf};
 ghost use Rattle.check_scope.specs.Context.{ContextFits};
-ghost use Rattle.check_memory.specs.Load.{is_work_group, loaded_type_at, points_to, load_points};
+ghost use Rattle.check_memory.specs.Load.{points_into_work_group, loaded_type_at, points_to, load_points};
 ghost use Rattle.check_scope.specs.walk.Place.{place_at};
 ghost use Rattle.check_scope.specs.walk.SeenContext.{context_of};
 ghost use Rattle.check_scope.specs.walk.Table.{HasPut, count, known};
@@ -57,7 +57,7 @@ fn check_load(
         loaded)) result }
 {
     check_use(scope, pointer)?;
-    if !is_work_group(space(context, pointer)) {
+    if !points_into_work_group(space(context, pointer)) {
         return Err(FunctionError::WorkgroupUniformLoadInvalidPointer(pointer));
     }
     check_put(scope, loaded)?;
@@ -70,23 +70,13 @@ fn check_load(
     Ok(())
 }
 
-fn is_work_group(space: Option<AddressSpace>) -> bool
-    ensures { result ≡ is_work_group space }
+/// Whether the space that a pointer points into is that of work groups.
+fn points_into_work_group(space: Option<AddressSpace>) -> bool
+    ensures { result ≡ points_into_work_group space }
 {
     match space {
+        Some(space) => space.is_work_group(),
         None => false,
-        Some(AddressSpace::WorkGroup) => true,
-        Some(
-            AddressSpace::Function
-            | AddressSpace::Private
-            | AddressSpace::Uniform
-            | AddressSpace::Storage { .. }
-            | AddressSpace::Handle
-            | AddressSpace::Immediate
-            | AddressSpace::TaskPayload
-            | AddressSpace::RayPayload
-            | AddressSpace::IncomingRayPayload,
-        ) => false,
     }
 }
 
@@ -97,43 +87,8 @@ fn loaded_type(context: &BlockContext, loaded: Handle<tag::Expression>) -> Optio
     ensures fits { IfSome result (λ ty. ty < length (context_of context.now).program.types) }
 {
     match context.expression(loaded) {
-        None => None,
         Some(Expression::WorkGroupUniformLoadResult { ty }) => Some(*ty),
-        Some(
-            Expression::Literal(_)
-            | Expression::Constant(_)
-            | Expression::Override(_)
-            | Expression::ZeroValue(_)
-            | Expression::Compose { .. }
-            | Expression::Access { .. }
-            | Expression::AccessIndex { .. }
-            | Expression::FunctionArgument(_)
-            | Expression::GlobalVariable(_)
-            | Expression::LocalVariable(_)
-            | Expression::Load { .. }
-            | Expression::CallResult(_)
-            | Expression::AtomicResult { .. }
-            | Expression::RayQueryProceedResult
-            | Expression::SubgroupBallotResult
-            | Expression::SubgroupOperationResult { .. }
-            | Expression::Splat { .. }
-            | Expression::Swizzle { .. }
-            | Expression::ImageSample { .. }
-            | Expression::ImageLoad { .. }
-            | Expression::ImageQuery { .. }
-            | Expression::Unary { .. }
-            | Expression::Binary { .. }
-            | Expression::Select { .. }
-            | Expression::Derivative { .. }
-            | Expression::Relational { .. }
-            | Expression::Math { .. }
-            | Expression::As { .. }
-            | Expression::ArrayLength { .. }
-            | Expression::RayQueryGetIntersection { .. }
-            | Expression::RayQueryVertexPositions { .. }
-            | Expression::CooperativeLoad { .. }
-            | Expression::CooperativeMultiplyAdd { .. },
-        ) => None,
+        _ => None,
     }
 }
 

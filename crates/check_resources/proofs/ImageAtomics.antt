@@ -7,7 +7,7 @@ use Rattle.ir_statements.specs.View.{used_if}
 use Rattle.ir_statements.specs.declared.operations.AtomicFunction.{AtomicFunction}
 use Rattle.ir_errors.specs.declared.function.FunctionError.TheVariants.{InvalidImageAtomic}
 use Rattle.naga_runs.specs.Soundness.{Fit}
-use Rattle.naga_runs.specs.Visits.{Place}
+use Rattle.naga_runs.specs.Visits.{VisitPlace}
 use Rattle.check_resources.specs.walk.ImageParts.{changed_value_points, changed_class_points}
 use Rattle.check_scope.specs.Context.{Context}
 use Rattle.check_resources.specs.ImageAtomic.{changed_shape, format_points, image_atomic_points}
@@ -17,7 +17,7 @@ use Rattle.check_scope.proofs.Flat.{holds_at, holds_behind}
 use Rattle.check_resources.proofs.Images.{index_fits}
 
 -- the uses of an image's atomic operation are allowed
-pub image_atomic_fits : (context : Context) (place : Place) (image coordinate : ℕ) (index : Option ℕ) (fun : AtomicFunction) (value : ℕ) → first_fault (image_atomic_points context place image coordinate index fun value) ≡ None → Fit (may_use place) (is_in_scope place) (Use coordinate ∷ (used_if index ++ Use value ∷ []))
+pub image_atomic_fits : (context : Context) (place : VisitPlace) (image coordinate : ℕ) (index : Option ℕ) (fun : AtomicFunction) (value : ℕ) → first_fault (image_atomic_points context place image coordinate index fun value) ≡ None → Fit (may_use place) (is_in_scope place) (Use coordinate ∷ (used_if index ++ Use value ∷ []))
 image_atomic_fits context place image coordinate index fun value e =
     let points = image_atomic_points context place image coordinate index fun value in
     let shape = changed_shape context image in

@@ -13,7 +13,7 @@ use Rattle.ir_errors.specs.declared.expression.ExpressionError.{ExpressionError}
 use Rattle.ir_errors.specs.declared.function.FunctionError.{FunctionError}
 use Rattle.ir_errors.specs.declared.function.FunctionError.TheVariants.{InvalidImageStore}
 use Rattle.naga_runs.specs.Soundness.{Fit}
-use Rattle.naga_runs.specs.Visits.{Place}
+use Rattle.naga_runs.specs.Visits.{VisitPlace}
 use Rattle.check_resources.specs.walk.ImageParts.{texel_value_points}
 use Rattle.check_scope.specs.Context.{Context}
 use Rattle.check_resources.specs.Image.{array_index_points, stored_format}
@@ -28,7 +28,7 @@ texel_has_no_members (Some given) format e =
     let same : given ≡ texel_type format = (inner_iff given (texel_type format)).0 e in
     subst HasNoMembers (sym same) tt
 
-module _ (context : Context) (place : Place) where
+module _ (context : Context) (place : VisitPlace) where
   -- the use of an array index is allowed
   pub index_fits : (inside : ExpressionError → FunctionError) (arrayed : Bool) (index : Option ℕ) (acts : List Act) → first_fault (array_index_points inside context place arrayed index) ≡ None → Fit (may_use place) (is_in_scope place) acts → Fit (may_use place) (is_in_scope place) (used_if index ++ acts)
   index_fits inside arrayed None acts e rest = rest

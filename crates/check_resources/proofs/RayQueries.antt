@@ -6,13 +6,13 @@ use Rattle.ir_statements.specs.View.{query_acts}
 use Rattle.ir_statements.specs.declared.operations.RayQueryFunction.{RayQueryFunction}
 use Rattle.ir_statements.specs.declared.operations.RayQueryFunction.TheVariants as query
 use Rattle.naga_runs.specs.Soundness.{Fit}
-use Rattle.naga_runs.specs.Visits.{Place}
+use Rattle.naga_runs.specs.Visits.{VisitPlace}
 use Rattle.check_scope.specs.Context.{Context}
 use Rattle.check_scope.specs.ScopePoints.{may_use, is_in_scope}
 use Rattle.check_resources.specs.RayQuery.{is_set, query_flag_at, query_function_points, ray_query_points}
 use Rattle.check_scope.proofs.Flat.{holds_at, holds_behind}
 
-module _ (context : Context) (place : Place) where
+module _ (context : Context) (place : VisitPlace) where
   function_fits : (q : ℕ) (flag : Bool) (fun : RayQueryFunction) → first_fault (query_function_points context place q flag fun) ≡ None → Fit (may_use place) (is_in_scope place) (query_acts fun)
   function_fits q flag (query.Initialize a d) e =
       let points = query_function_points context place q flag (query.Initialize a d) in

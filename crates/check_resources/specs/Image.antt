@@ -18,56 +18,23 @@ use Rattle.ir_types.specs.declared.types.TypeInner.TheVariants as inner
 use Rattle.ir_errors.specs.declared.expression.ExpressionError.{ExpressionError}
 use Rattle.ir_errors.specs.declared.expression.ExpressionError.TheVariants as wrong
 use Rattle.ir_errors.specs.declared.function.FunctionError.{FunctionError}
-use Rattle.naga_runs.specs.Visits.{Place}
+use Rattle.naga_runs.specs.Visits.{VisitPlace}
 use Rattle.check_scope.specs.Context.{Context}
 use Rattle.check_scope.specs.ScopePoints.{Points, use_point}
-use Rattle.check_scope.specs.Roots.{access_base}
+use Rattle.check_scope.specs.Roots.{access_base_in}
 use Rattle.check_scope.specs.ExpressionTypes.{is_integer_kind, expression_at, type_at}
 
 -- the type that the global is declared with which an expression is
 abbrev pub global_type_of : Context → Option Expression → Option ℕ
-global_type_of context None = None
 global_type_of context (Some (e.GlobalVariable g)) = option_map (λ v. v.ty) (slice_get context.program.global_variables g)
-global_type_of context (Some (e.Literal l)) = None
-global_type_of context (Some (e.Constant h)) = None
-global_type_of context (Some (e.Override h)) = None
-global_type_of context (Some (e.ZeroValue ty)) = None
-global_type_of context (Some (e.Compose ty components)) = None
-global_type_of context (Some (e.Access base index)) = None
-global_type_of context (Some (e.AccessIndex base index)) = None
-global_type_of context (Some (e.FunctionArgument i)) = None
-global_type_of context (Some (e.LocalVariable h)) = None
-global_type_of context (Some (e.Load pointer)) = None
-global_type_of context (Some (e.CallResult f)) = None
-global_type_of context (Some (e.AtomicResult ty comparison)) = None
-global_type_of context (Some (e.WorkGroupUniformLoadResult ty)) = None
-global_type_of context (Some e.RayQueryProceedResult) = None
-global_type_of context (Some e.SubgroupBallotResult) = None
-global_type_of context (Some (e.SubgroupOperationResult ty)) = None
-global_type_of context (Some (e.Splat detail operands)) = None
-global_type_of context (Some (e.Swizzle detail operands)) = None
-global_type_of context (Some (e.ImageSample detail operands)) = None
-global_type_of context (Some (e.ImageLoad detail operands)) = None
-global_type_of context (Some (e.ImageQuery detail operands)) = None
-global_type_of context (Some (e.Unary detail operands)) = None
-global_type_of context (Some (e.Binary detail operands)) = None
-global_type_of context (Some (e.Select detail operands)) = None
-global_type_of context (Some (e.Derivative detail operands)) = None
-global_type_of context (Some (e.Relational detail operands)) = None
-global_type_of context (Some (e.Math detail operands)) = None
-global_type_of context (Some (e.As detail operands)) = None
-global_type_of context (Some (e.ArrayLength detail operands)) = None
-global_type_of context (Some (e.RayQueryGetIntersection detail operands)) = None
-global_type_of context (Some (e.RayQueryVertexPositions detail operands)) = None
-global_type_of context (Some (e.CooperativeLoad detail operands)) = None
-global_type_of context (Some (e.CooperativeMultiplyAdd detail operands)) = None
+global_type_of context _ = None
 
 abbrev pub global_type_at : Context → ℕ → Option ℕ
 global_type_at context h = global_type_of context (expression_at context h)
 
 -- whether an image is an element of what a global is
 abbrev pub is_element_at : Context → ℕ → Bool
-is_element_at context image = is_some (access_base (expression_at context image))
+is_element_at context image = is_some (access_base_in (expression_at context image))
 
 abbrev pub global_type_behind : Context → ℕ → Option ℕ → Option ℕ
 global_type_behind context image None = global_type_at context image
@@ -75,7 +42,7 @@ global_type_behind context image (Some base) = global_type_at context base
 
 -- and of the global which an image is, or of which it is an element
 abbrev pub image_global_at : Context → ℕ → Option ℕ
-image_global_at context image = global_type_behind context image (access_base (expression_at context image))
+image_global_at context image = global_type_behind context image (access_base_in (expression_at context image))
 
 -- the same, where there is such a global
 abbrev pub image_global : Context → ℕ → ℕ
@@ -127,7 +94,7 @@ is_integer_scalar (Some (inner.Scalar s)) = is_integer_kind (Some s.kind)
 is_integer_scalar _ = false
 
 -- the array index: there where the image is arrayed, put by every run, and an integer. Its faults stand inside the statement's
-abbrev pub array_index_points : (ExpressionError → FunctionError) → Context → Place → Bool → Option ℕ → Points
+abbrev pub array_index_points : (ExpressionError → FunctionError) → Context → VisitPlace → Bool → Option ℕ → Points
 array_index_points inside context place arrayed None = (not arrayed, inside wrong.InvalidImageArrayIndex) ∷ []
 array_index_points inside context place arrayed (Some h) =
     (arrayed, inside wrong.InvalidImageArrayIndex)

@@ -22,7 +22,7 @@ use Rattle.ir_errors.specs.declared.expression.ExpressionError.{ExpressionError}
 use Rattle.ir_errors.specs.declared.expression.ExpressionError.TheVariants as wrong
 use Rattle.ir_errors.specs.declared.function.FunctionError.{FunctionError}
 use Rattle.ir_errors.specs.declared.function.FunctionError.TheVariants.{InvalidImageAtomic, InvalidImageAtomicFunction, InvalidImageAtomicValue, MissingCapability}
-use Rattle.naga_runs.specs.Visits.{Place}
+use Rattle.naga_runs.specs.Visits.{VisitPlace}
 use Rattle.check_scope.specs.Context.{Context}
 use Rattle.check_resources.specs.Image.{image_global_at, image_global, ImageShape, is_image, shape_of, is_storage_class, stored_format, stored_access, is_coordinate, array_index_points}
 use Rattle.check_scope.specs.ScopePoints.{Points, use_point}
@@ -74,7 +74,7 @@ format_points capabilities formats.R32Uint fun =
 format_points capabilities other fun = change_point false (wrong.InvalidImageFormat other) ∷ []
 
 -- ImageAtomic: its image, the texel, which comes before the class, the operation, and the value
-abbrev pub image_atomic_points : Context → Place → ℕ → ℕ → Option ℕ → AtomicFunction → ℕ → Points
+abbrev pub image_atomic_points : Context → VisitPlace → ℕ → ℕ → Option ℕ → AtomicFunction → ℕ → Points
 image_atomic_points context place image coordinate array_index fun value =
     let shape = changed_shape context image in
     let format = stored_format shape.class in

@@ -14,7 +14,7 @@ use Rattle.ir_errors.specs.declared.expression.ExpressionError.TheVariants as wr
 use Rattle.check_variables.specs.Globals.{element_of}
 use Rattle.ir_errors.specs.declared.function.FunctionError.{FunctionError}
 use Rattle.ir_errors.specs.declared.function.FunctionError.TheVariants.{InvalidImageStore, InvalidStoreValue}
-use Rattle.naga_runs.specs.Visits.{Place}
+use Rattle.naga_runs.specs.Visits.{VisitPlace}
 use Rattle.check_scope.specs.Context.{Context}
 use Rattle.check_scope.specs.ScopePoints.{Points, use_point}
 use Rattle.check_scope.specs.ExpressionTypes.{type_at, named_type_at}
@@ -50,7 +50,7 @@ abbrev pub store_point : Bool → ExpressionError → Point FunctionError
 store_point holds error = (holds, InvalidImageStore error)
 
 -- ImageStore: its image, the texel, and the value
-abbrev pub image_store_points : Context → Place → ℕ → ℕ → Option ℕ → ℕ → Points
+abbrev pub image_store_points : Context → VisitPlace → ℕ → ℕ → Option ℕ → ℕ → Points
 image_store_points context place image coordinate array_index value =
     let global = image_global context image in
     let shape = stored_shape context image in

@@ -9,7 +9,7 @@ use Rattle.ir_statements.specs.declared.operations.RayQueryFunction.TheVariants 
 use Rattle.ir_types.specs.declared.types.TypeInner.{TypeInner}
 use Rattle.ir_types.specs.declared.types.TypeInner.TheVariants as inner
 use Rattle.ir_errors.specs.declared.function.FunctionError.TheVariants.{InvalidRayQueryExpression, InvalidRayQueryType, InvalidAccelerationStructure, MissingAccelerationStructureVertexReturn, InvalidRayDescriptor, InvalidHitDistanceType}
-use Rattle.naga_runs.specs.Visits.{Place}
+use Rattle.naga_runs.specs.Visits.{VisitPlace}
 use Rattle.check_scope.specs.Context.{Context}
 use Rattle.check_scope.specs.ScopePoints.{Points, use_point, put_point}
 use Rattle.ir_types.specs.TypeTests.{both_are, is_float_kind, is_same_inner}
@@ -17,41 +17,8 @@ use Rattle.check_scope.specs.ExpressionTypes.{expression_at, type_at}
 
 -- the type that the local is declared with which an expression is
 abbrev pub local_type_of : Context → Option Expression → Option ℕ
-local_type_of context None = None
 local_type_of context (Some (e.LocalVariable v)) = option_map (λ l. l.ty) (slice_get context.fun.local_variables v)
-local_type_of context (Some (e.Literal l)) = None
-local_type_of context (Some (e.Constant h)) = None
-local_type_of context (Some (e.Override h)) = None
-local_type_of context (Some (e.ZeroValue ty)) = None
-local_type_of context (Some (e.Compose ty components)) = None
-local_type_of context (Some (e.Access base index)) = None
-local_type_of context (Some (e.AccessIndex base index)) = None
-local_type_of context (Some (e.FunctionArgument i)) = None
-local_type_of context (Some (e.GlobalVariable h)) = None
-local_type_of context (Some (e.Load pointer)) = None
-local_type_of context (Some (e.CallResult f)) = None
-local_type_of context (Some (e.AtomicResult ty comparison)) = None
-local_type_of context (Some (e.WorkGroupUniformLoadResult ty)) = None
-local_type_of context (Some e.RayQueryProceedResult) = None
-local_type_of context (Some e.SubgroupBallotResult) = None
-local_type_of context (Some (e.SubgroupOperationResult ty)) = None
-local_type_of context (Some (e.Splat detail operands)) = None
-local_type_of context (Some (e.Swizzle detail operands)) = None
-local_type_of context (Some (e.ImageSample detail operands)) = None
-local_type_of context (Some (e.ImageLoad detail operands)) = None
-local_type_of context (Some (e.ImageQuery detail operands)) = None
-local_type_of context (Some (e.Unary detail operands)) = None
-local_type_of context (Some (e.Binary detail operands)) = None
-local_type_of context (Some (e.Select detail operands)) = None
-local_type_of context (Some (e.Derivative detail operands)) = None
-local_type_of context (Some (e.Relational detail operands)) = None
-local_type_of context (Some (e.Math detail operands)) = None
-local_type_of context (Some (e.As detail operands)) = None
-local_type_of context (Some (e.ArrayLength detail operands)) = None
-local_type_of context (Some (e.RayQueryGetIntersection detail operands)) = None
-local_type_of context (Some (e.RayQueryVertexPositions detail operands)) = None
-local_type_of context (Some (e.CooperativeLoad detail operands)) = None
-local_type_of context (Some (e.CooperativeMultiplyAdd detail operands)) = None
+local_type_of context _ = None
 
 abbrev pub local_type_at : Context → ℕ → Option ℕ
 local_type_at context h = local_type_of context (expression_at context h)
@@ -84,7 +51,7 @@ abbrev pub descriptor_type : Context → Option TypeInner
 descriptor_type context = option_and_then (inner_at context.program.types) context.program.special_types.ray_desc
 
 -- the descriptor of a ray: put by every run, and of the module's type of ray descriptors
-abbrev pub descriptor_points : Context → Place → ℕ → Points
+abbrev pub descriptor_points : Context → VisitPlace → ℕ → Points
 descriptor_points context place descriptor =
     use_point place descriptor
     ∷ (both_are is_same_inner (type_at context descriptor) (descriptor_type context), InvalidRayDescriptor descriptor)
@@ -96,7 +63,7 @@ is_float_scalar (Some (inner.Scalar s)) = is_float_kind s.kind
 is_float_scalar _ = false
 
 -- what is done with a query, which returns vertices or not. Proceed puts its result, of any kind
-abbrev pub query_function_points : Context → Place → ℕ → Bool → RayQueryFunction → Points
+abbrev pub query_function_points : Context → VisitPlace → ℕ → Bool → RayQueryFunction → Points
 query_function_points context place q vertex_return (query.Initialize structure descriptor) =
     use_point place structure
     ∷ (is_some (structure_flag_at context structure), InvalidAccelerationStructure structure)
@@ -109,7 +76,7 @@ query_function_points context place q vertex_return query.ConfirmIntersection = 
 query_function_points context place q vertex_return query.Terminate = []
 
 -- RayQuery: its query, a local, and what is done with it
-abbrev pub ray_query_points : Context → Place → ℕ → RayQueryFunction → Points
+abbrev pub ray_query_points : Context → VisitPlace → ℕ → RayQueryFunction → Points
 ray_query_points context place query fun =
     (is_some (local_type_at context query), InvalidRayQueryExpression query)
     ∷ (is_some (query_flag_at context query), InvalidRayQueryType (local_type context query))

@@ -9,7 +9,7 @@ use Rattle.ir_statements.specs.declared.statements.Statement as ir
 use Rattle.ir_types.specs.declared.types.TypeInner.{TypeInner}
 use Rattle.ir_types.specs.declared.types.TypeInner.TheVariants as inner
 use Rattle.ir_arena.specs.declared.span.Span.{Span}
-use Rattle.naga_runs.specs.Positions.{Node, StatementNode}
+use Rattle.naga_runs.specs.Positions.{BodyNode, StatementNode}
 use Rattle.naga_runs.specs.Visits.{Visit}
 use Rattle.check_scope.specs.Context.{Context}
 use Rattle.check_scope.specs.ExpressionTypes.{type_at}
@@ -26,7 +26,7 @@ abbrev pub payload_type_at : Context → ℕ → Option ℕ
 payload_type_at context payload = payload_type_of (type_at context payload)
 
 -- the type of a TraceRay's payload
-abbrev pub trace_payload : Context → Node → Option ℕ
+abbrev pub trace_payload : Context → BodyNode → Option ℕ
 trace_payload context (StatementNode (Leaf acts (ir.RayPipelineFunction (TraceRay a d payload)) span)) =
     payload_type_at context payload
 trace_payload context _ = None
@@ -50,7 +50,7 @@ span_where true span = Some span
 span_where false span = None
 
 -- where a TraceRay stands whose acceleration structure lacks the flag
-abbrev pub lacks_vertex_return_at : Context → Node → Option Span
+abbrev pub lacks_vertex_return_at : Context → BodyNode → Option Span
 lacks_vertex_return_at context (StatementNode (Leaf acts (ir.RayPipelineFunction (TraceRay a d payload)) span)) =
     span_where (lacks_vertex_return (type_at context a)) span
 lacks_vertex_return_at context _ = None
@@ -60,7 +60,7 @@ abbrev pub last_without : Context → List Visit → Option Span
 last_without context [] = None
 last_without context (v ∷ visits) = option_or (last_without context visits) (lacks_vertex_return_at context v.node)
 
-abbrev pub is_trace : Node → Bool
+abbrev pub is_trace : BodyNode → Bool
 is_trace (StatementNode (Leaf acts (ir.RayPipelineFunction (TraceRay a d payload)) span)) = true
 is_trace _ = false
 
@@ -87,7 +87,7 @@ trace_after before context visits =
     }
 
 -- one visit more, as the code goes along: work of lemmas
-abbrev pub with_trace : Context → TraceState → Node → TraceState
+abbrev pub with_trace : Context → TraceState → BodyNode → TraceState
 with_trace context trace node =
     record {
       payload = option_or trace.payload (trace_payload context node);

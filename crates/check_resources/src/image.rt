@@ -12,7 +12,7 @@ ghost use Rattle.ir_facts.specs.Answers.{Finds, FirstOf};
 
 use check_scope::context::BlockContext;
 use check_scope::refuse::check_use;
-use check_scope::roots::access_base;
+use check_scope::roots::access_base_in;
 use check_scope::table::ScopeColumn;
 use check_scope::types::is_integer_kind;
 use ir_arena::handle::Handle;
@@ -61,7 +61,7 @@ pub(crate) fn image_global(
 ) -> Option<Handle<tag::Type>>
     ensures { result ≡ image_global_at (context_of context.now) image }
 {
-    match access_base(context.expression(image)) {
+    match access_base_in(context.expression(image)) {
         Some(base) => global_type(context, base),
         None => global_type(context, image),
     }
@@ -71,52 +71,17 @@ pub(crate) fn image_global(
 fn global_type(context: &BlockContext, handle: Handle<tag::Expression>) -> Option<Handle<tag::Type>>
     ensures { result ≡ global_type_at (context_of context.now) handle }
 {
-    match context.expression(handle) {
+    let Some(Expression::GlobalVariable(global)) = context.expression(handle) else {
+        return None;
+    };
+    match context
+        .program
+        .global_variables
+        .as_slice()
+        .get(global.index())
+    {
+        Some(variable) => Some(variable.ty),
         None => None,
-        Some(Expression::GlobalVariable(global)) => match context
-            .program
-            .global_variables
-            .as_slice()
-            .get(global.index())
-        {
-            Some(variable) => Some(variable.ty),
-            None => None,
-        },
-        Some(
-            Expression::Literal(_)
-            | Expression::Constant(_)
-            | Expression::Override(_)
-            | Expression::ZeroValue(_)
-            | Expression::Compose { .. }
-            | Expression::Access { .. }
-            | Expression::AccessIndex { .. }
-            | Expression::FunctionArgument(_)
-            | Expression::LocalVariable(_)
-            | Expression::Load { .. }
-            | Expression::CallResult(_)
-            | Expression::AtomicResult { .. }
-            | Expression::WorkGroupUniformLoadResult { .. }
-            | Expression::RayQueryProceedResult
-            | Expression::SubgroupBallotResult
-            | Expression::SubgroupOperationResult { .. }
-            | Expression::Splat { .. }
-            | Expression::Swizzle { .. }
-            | Expression::ImageSample { .. }
-            | Expression::ImageLoad { .. }
-            | Expression::ImageQuery { .. }
-            | Expression::Unary { .. }
-            | Expression::Binary { .. }
-            | Expression::Select { .. }
-            | Expression::Derivative { .. }
-            | Expression::Relational { .. }
-            | Expression::Math { .. }
-            | Expression::As { .. }
-            | Expression::ArrayLength { .. }
-            | Expression::RayQueryGetIntersection { .. }
-            | Expression::RayQueryVertexPositions { .. }
-            | Expression::CooperativeLoad { .. }
-            | Expression::CooperativeMultiplyAdd { .. },
-        ) => None,
     }
 }
 

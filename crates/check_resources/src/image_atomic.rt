@@ -15,7 +15,7 @@ use crate::image::{ImageShape, ImageStatement, Texel, check_texel, image_global}
 use check_scope::context::BlockContext;
 use check_scope::refuse::{answer, check_use};
 use check_scope::table::ScopeColumn;
-use check_scope::types::{inner_at, is_scalar};
+use check_scope::types::is_scalar;
 use ir_arena::handle::Handle;
 use ir_arena::span::Span;
 use ir_arena::{Refused, tag};
@@ -26,6 +26,7 @@ use ir_flags::ir::StorageAccess;
 use ir_leaves::images::StorageFormat;
 use ir_leaves::scalars::Scalar;
 use ir_statements::operations::AtomicFunction;
+use ir_types::type_methods::inner_at;
 use ir_types::types::{ImageClass, TypeInner};
 
 /// An operation on a texel: which texel, what is done, and with what value.
@@ -93,8 +94,11 @@ fn changed_type<'a>(context: &BlockContext<'a>, ty: Handle<tag::Type>) -> Option
     ensures { option_copied result
         ≡ element_or_itself (context_of context.now).program.types (inner_at (context_of context.now).program.types ty) }
 {
-    match inner_at(context, ty) {
-        Some(TypeInner::BindingArray { base, .. }) => inner_at(context, *base),
+    match inner_at(context.program.types.as_slice(), ty) {
+        Some(TypeInner::BindingArray { base, .. }) => inner_at(
+            context.program.types.as_slice(),
+            *base,
+        ),
         inner => inner,
     }
 }

@@ -16,9 +16,8 @@ ghost use Rattle.check_scope.specs.walk.Table.{known};
 use crate::image::{ImageShape, ImageStatement, Texel, check_texel, element_of, image_global};
 use check_scope::context::BlockContext;
 use check_scope::refuse::{answer, check_use};
-use check_scope::roots::access_base;
+use check_scope::roots::access_base_in;
 use check_scope::table::ScopeColumn;
-use check_scope::types::inner_at;
 use ir_arena::handle::Handle;
 use ir_arena::span::Span;
 use ir_arena::{Refused, tag};
@@ -26,6 +25,7 @@ use ir_errors::expression::ExpressionError;
 use ir_errors::function::FunctionError;
 use ir_leaves::images::StorageFormat;
 use ir_leaves::scalars::{Scalar, VectorSize};
+use ir_types::type_methods::inner_at;
 use ir_types::types::{ImageClass, TypeInner};
 use std::alloc::{AllocError, Global};
 
@@ -83,8 +83,8 @@ fn check_stored_texel(
         let error = ExpressionError::ExpectedGlobalVariable;
         return Err(FunctionError::InvalidImageStore(error));
     };
-    let is_element = access_base(context.expression(image)).is_some();
-    if is_element && element_of(inner_at(context, ty)).is_none() {
+    let is_element = access_base_in(context.expression(image)).is_some();
+    if is_element && element_of(inner_at(context.program.types.as_slice(), ty)).is_none() {
         let error = ExpressionError::ExpectedBindingArrayType(ty);
         return Err(FunctionError::InvalidImageStore(error));
     }
@@ -120,12 +120,12 @@ fn stored_type<'a>(
     ensures { option_copied result ≡ stored_type (context_of context.now).program.types is_element ty }
 {
     if is_element {
-        match element_of(inner_at(context, ty)) {
-            Some(element) => inner_at(context, element),
+        match element_of(inner_at(context.program.types.as_slice(), ty)) {
+            Some(element) => inner_at(context.program.types.as_slice(), element),
             None => None,
         }
     } else {
-        inner_at(context, ty)
+        inner_at(context.program.types.as_slice(), ty)
     }
 }
 

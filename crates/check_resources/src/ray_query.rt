@@ -17,7 +17,7 @@ ghost use Rattle.check_scope.specs.walk.Table.{HasPut, count, known};
 use check_scope::context::BlockContext;
 use check_scope::refuse::{answer, check_put, check_use};
 use check_scope::table::ScopeColumn;
-use check_scope::types::{are_same_inners, inner_at};
+use check_scope::types::are_same_inners;
 use ir_arena::handle::Handle;
 use ir_arena::span::Span;
 use ir_arena::{Refused, tag};
@@ -25,6 +25,7 @@ use ir_errors::function::FunctionError;
 use ir_leaves::scalars::ScalarKind;
 use ir_module::expressions::Expression;
 use ir_statements::operations::RayQueryFunction;
+use ir_types::type_methods::inner_at;
 use ir_types::types::TypeInner;
 
 /// RayQuery: its query, a local, and what is done with it. The result of a Proceed is in scope afterwards.
@@ -64,7 +65,7 @@ fn check_ray_query(
     let Some(ty) = local_type(context, query) else {
         return Err(FunctionError::InvalidRayQueryExpression(query));
     };
-    let Some(vertex_return) = query_flag_of(inner_at(context, ty)) else {
+    let Some(vertex_return) = query_flag_of(inner_at(context.program.types.as_slice(), ty)) else {
         return Err(FunctionError::InvalidRayQueryType(ty));
     };
     check_query_function(scope, context, query, vertex_return, fun)
@@ -75,7 +76,6 @@ fn local_type(context: &BlockContext, handle: Handle<tag::Expression>) -> Option
     ensures { result ≡ local_type_at (context_of context.now) handle }
 {
     match context.expression(handle) {
-        None => None,
         Some(Expression::LocalVariable(variable)) => match context
             .fun
             .local_variables
@@ -85,41 +85,7 @@ fn local_type(context: &BlockContext, handle: Handle<tag::Expression>) -> Option
             Some(local) => Some(local.ty),
             None => None,
         },
-        Some(
-            Expression::Literal(_)
-            | Expression::Constant(_)
-            | Expression::Override(_)
-            | Expression::ZeroValue(_)
-            | Expression::Compose { .. }
-            | Expression::Access { .. }
-            | Expression::AccessIndex { .. }
-            | Expression::FunctionArgument(_)
-            | Expression::GlobalVariable(_)
-            | Expression::Load { .. }
-            | Expression::CallResult(_)
-            | Expression::AtomicResult { .. }
-            | Expression::WorkGroupUniformLoadResult { .. }
-            | Expression::RayQueryProceedResult
-            | Expression::SubgroupBallotResult
-            | Expression::SubgroupOperationResult { .. }
-            | Expression::Splat { .. }
-            | Expression::Swizzle { .. }
-            | Expression::ImageSample { .. }
-            | Expression::ImageLoad { .. }
-            | Expression::ImageQuery { .. }
-            | Expression::Unary { .. }
-            | Expression::Binary { .. }
-            | Expression::Select { .. }
-            | Expression::Derivative { .. }
-            | Expression::Relational { .. }
-            | Expression::Math { .. }
-            | Expression::As { .. }
-            | Expression::ArrayLength { .. }
-            | Expression::RayQueryGetIntersection { .. }
-            | Expression::RayQueryVertexPositions { .. }
-            | Expression::CooperativeLoad { .. }
-            | Expression::CooperativeMultiplyAdd { .. },
-        ) => None,
+        _ => None,
     }
 }
 
@@ -216,7 +182,7 @@ fn descriptor_type<'a>(context: &BlockContext<'a>) -> Option<&'a TypeInner>
     ensures { option_copied result ≡ descriptor_type (context_of context.now) }
 {
     match context.program.special_types.ray_desc {
-        Some(ty) => inner_at(context, ty),
+        Some(ty) => inner_at(context.program.types.as_slice(), ty),
         None => None,
     }
 }

@@ -107,45 +107,7 @@ fn is_payload_space(space: AddressSpace) -> bool
 fn is_global(expression: Option<&Expression>) -> bool
     ensures { result ≡ is_global (option_copied expression.entry) }
 {
-    match expression {
-        None => false,
-        Some(Expression::GlobalVariable(_)) => true,
-        Some(
-            Expression::Literal(_)
-            | Expression::Constant(_)
-            | Expression::Override(_)
-            | Expression::ZeroValue(_)
-            | Expression::Compose { .. }
-            | Expression::Access { .. }
-            | Expression::AccessIndex { .. }
-            | Expression::FunctionArgument(_)
-            | Expression::LocalVariable(_)
-            | Expression::Load { .. }
-            | Expression::CallResult(_)
-            | Expression::AtomicResult { .. }
-            | Expression::WorkGroupUniformLoadResult { .. }
-            | Expression::RayQueryProceedResult
-            | Expression::SubgroupBallotResult
-            | Expression::SubgroupOperationResult { .. }
-            | Expression::Splat { .. }
-            | Expression::Swizzle { .. }
-            | Expression::ImageSample { .. }
-            | Expression::ImageLoad { .. }
-            | Expression::ImageQuery { .. }
-            | Expression::Unary { .. }
-            | Expression::Binary { .. }
-            | Expression::Select { .. }
-            | Expression::Derivative { .. }
-            | Expression::Relational { .. }
-            | Expression::Math { .. }
-            | Expression::As { .. }
-            | Expression::ArrayLength { .. }
-            | Expression::RayQueryGetIntersection { .. }
-            | Expression::RayQueryVertexPositions { .. }
-            | Expression::CooperativeLoad { .. }
-            | Expression::CooperativeMultiplyAdd { .. },
-        ) => false,
-    }
+    matches!(expression, Some(Expression::GlobalVariable(_)))
 }
 
 /// What ray traces leave after a statement: only a ray trace changes it.

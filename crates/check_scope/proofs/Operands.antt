@@ -7,7 +7,7 @@ use Rattle.ir_arena.specs.Points.{first_fault}
 use Rattle.ir_errors.specs.declared.expression.ExpressionError.TheVariants.{NotInScope}
 use Rattle.ir_errors.specs.declared.function.FunctionError.TheVariants.{Expression}
 use Rattle.naga_runs.specs.Handles.{Handles, with_handle}
-use Rattle.naga_runs.specs.Visits.{Place}
+use Rattle.naga_runs.specs.Visits.{VisitPlace}
 use Rattle.check_scope.specs.ScopePoints.{may_use, use_point}
 use Rattle.check_scope.specs.declared.table.OperandColumn.{OperandColumn}
 use Rattle.check_scope.specs.declared.table.ScopeColumn.{ScopeColumn}
@@ -290,7 +290,7 @@ module _ (t : ScopeColumn) (last : ℕ) where
       ap (λ b. first_fault ((b, Expression x NotInScope) ∷ map (use_point (place_at (known t))) xs)) (used x (put 0 (omega arith)))
       ∙ all_usable xs (λ k lt. put (suc k) (omega arith))
 
-pub each_usable : (place : Place) (xs : List ℕ) → first_fault (map (use_point place) xs) ≡ None → (k : ℕ) → k < length xs → may_use place (get_or xs k 0) ≡ true
+pub each_usable : (place : VisitPlace) (xs : List ℕ) → first_fault (map (use_point place) xs) ≡ None → (k : ℕ) → k < length xs → may_use place (get_or xs k 0) ≡ true
 each_usable place [] e k lt = absurd (omega arith)
 each_usable place (x ∷ xs) e zero lt =
     (first_holds (may_use place x) (Expression x NotInScope) (map (use_point place) xs) e).0

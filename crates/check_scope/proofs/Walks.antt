@@ -9,15 +9,15 @@ use Rattle.ir_facts.specs.Fits.{NameEarlierExpressions}
 use Rattle.ir_module.specs.declared.expressions.Expression.{Expression as IrExpression}
 use Rattle.ir_module.specs.declared.expressions.Expression.TheVariants as e
 use Rattle.check_scope.specs.Context.{Context}
-use Rattle.check_scope.specs.Roots.{access_base, root_at, root_within}
+use Rattle.check_scope.specs.Roots.{access_base_in, root_at, root_within}
 use Rattle.check_scope.specs.walk.Table.{AreRoots}
 
 module _ (es : List IrExpression) (earlier : NameEarlierExpressions es) where
   -- a base stands before its access
-  pub base_is_earlier : (h b : ℕ) → access_base (slice_get es h) ≡ Some b → b < h
+  pub base_is_earlier : (h b : ℕ) → access_base_in (slice_get es h) ≡ Some b → b < h
   base_is_earlier h b is = go (slice_get es h) refl is
     where
-      go : (o : Option IrExpression) → slice_get es h ≡ o → access_base o ≡ Some b → b < h
+      go : (o : Option IrExpression) → slice_get es h ≡ o → access_base_in o ≡ Some b → b < h
       go (Some (e.Access base index)) at is =
           let same : base ≡ b = cc in
           let first : base < h = earlier h (e.Access base index) at 0 base (omega arith) in omega (arith, same, first)
@@ -29,14 +29,14 @@ module _ (es : List IrExpression) (earlier : NameEarlierExpressions es) where
   -- one step more than are needed changes nothing
   one_more : (n h : ℕ) → h ≤ n → root_within es (suc n) h ≡ root_within es n h
   unfolding root_within
-  one_more zero h le = go (access_base (slice_get es h)) refl
+  one_more zero h le = go (access_base_in (slice_get es h)) refl
     where
-      go : (o : Option ℕ) → access_base (slice_get es h) ≡ o → unwrap_or (option_map (root_within es zero) o) h ≡ h
+      go : (o : Option ℕ) → access_base_in (slice_get es h) ≡ o → unwrap_or (option_map (root_within es zero) o) h ≡ h
       go None at = refl
       go (Some b) at = let less : b < h = base_is_earlier h b at in absurd (omega (arith, less, le))
-  one_more (suc n) h le = go (access_base (slice_get es h)) refl (one_more n)
+  one_more (suc n) h le = go (access_base_in (slice_get es h)) refl (one_more n)
     where
-      go : (o : Option ℕ) → access_base (slice_get es h) ≡ o → ((k : ℕ) → k ≤ n → root_within es (suc n) k ≡ root_within es n k) → unwrap_or (option_map (root_within es (suc n)) o) h ≡ unwrap_or (option_map (root_within es n) o) h
+      go : (o : Option ℕ) → access_base_in (slice_get es h) ≡ o → ((k : ℕ) → k ≤ n → root_within es (suc n) k ≡ root_within es n k) → unwrap_or (option_map (root_within es (suc n)) o) h ≡ unwrap_or (option_map (root_within es n) o) h
       go None at same = refl
       go (Some b) at same = let less : b < h = base_is_earlier h b at in same b (omega (arith, less, le))
 
@@ -46,7 +46,7 @@ module _ (es : List IrExpression) (earlier : NameEarlierExpressions es) where
   enough (suc d) (suc n) h e = one_more n h (omega (arith, e)) ∙ enough d n h (omega (arith, e))
 
   -- the walk from an access stops where that from its base does
-  pub root_of_base : (h b : ℕ) → access_base (slice_get es h) ≡ Some b → root_within es b b ≡ root_within es h h
+  pub root_of_base : (h b : ℕ) → access_base_in (slice_get es h) ≡ Some b → root_within es b b ≡ root_within es h h
   unfolding root_within
   root_of_base zero b is = let less : b < zero = base_is_earlier zero b is in absurd (omega (arith, less))
   root_of_base (suc k) b is =
@@ -55,7 +55,7 @@ module _ (es : List IrExpression) (earlier : NameEarlierExpressions es) where
       ∙ sym (ap (λ o. unwrap_or (option_map (root_within es k) o) (suc k)) is)
 
   -- and that from any other expression at once
-  pub root_of_itself : (h : ℕ) → access_base (slice_get es h) ≡ None → root_within es h h ≡ h
+  pub root_of_itself : (h : ℕ) → access_base_in (slice_get es h) ≡ None → root_within es h h ≡ h
   unfolding root_within
   root_of_itself zero is = refl
   root_of_itself (suc k) is = ap (λ o. unwrap_or (option_map (root_within es k) o) (suc k)) is

@@ -8,7 +8,7 @@ use Rattle.ir_statements.specs.declared.statements.Statement as ir
 use Rattle.ir_statements.specs.declared.statements.Statement.{Statement, Switch'}
 use Rattle.ir_errors.specs.declared.function.FunctionError.TheVariants.{UnvisitedExpression}
 use Rattle.naga_runs.specs.Handles.{Handles}
-use Rattle.naga_runs.specs.Positions.{Node, NoNode, StatementNode, BreakIfNode}
+use Rattle.naga_runs.specs.Positions.{BodyNode, NoNode, StatementNode, BreakIfNode}
 use Rattle.naga_runs.specs.Visits.{Visit}
 use Rattle.check_scope.specs.Context.{Context}
 use Rattle.ir_facts.specs.WhatIsChecked.{checks_expressions}
@@ -104,7 +104,7 @@ named_result ir.Continue = None
 named_result (ir.Return value) = None
 named_result ir.Kill = None
 
-abbrev pub result_of : Node → Option ℕ
+abbrev pub result_of : BodyNode → Option ℕ
 result_of NoNode = None
 result_of (BreakIfNode h) = None
 result_of (StatementNode (Leaf acts statement span)) = named_result statement
@@ -122,7 +122,7 @@ is_this r None = false
 is_this r (Some named) = named == r
 
 -- what stands there is a Call or an Atomic that names r as its result
-abbrev pub fills : ℕ → Node → Bool
+abbrev pub fills : ℕ → BodyNode → Bool
 fills r node = is_this r (result_of node)
 
 -- the results that are filled before a visit, where these are the visits before it

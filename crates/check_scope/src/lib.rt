@@ -10,5 +10,3 @@ pub mod roots;
 pub mod table;
 pub mod trace;
 pub mod types;
-
-pub use crate::trace::{TraceRayVertexReturnState, TraceState};

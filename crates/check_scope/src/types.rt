@@ -2,7 +2,7 @@
 
 ghost use Rattle.std.specs.Prelude.{◌≡◌, IfSome, length};
 ghost use Rattle.std.specs.Option.{option_copied};
-ghost use Rattle.ir_types.specs.Types.{NamesTypesBelow, ResolutionFits, inner_at};
+ghost use Rattle.ir_types.specs.Types.{NamesTypesBelow, ResolutionFits};
 ghost use Rattle.check_scope.specs.walk.SeenContext.{context_of};
 ghost use Rattle.check_scope.specs.Context.{ContextFits};
 ghost use Rattle.check_scope.specs.ExpressionTypes.{is_integer_kind, is_of_type};
@@ -92,14 +92,4 @@ pub fn is_integer_kind(kind: Option<ScalarKind>) -> bool
     ensures { result ≡ is_integer_kind kind }
 {
     matches!(kind, Some(ScalarKind::Uint | ScalarKind::Sint))
-}
-
-/// The type at a handle.
-pub fn inner_at<'a>(context: &BlockContext<'a>, ty: Handle<tag::Type>) -> Option<&'a TypeInner>
-    ensures { option_copied result ≡ inner_at (context_of context.now).program.types ty }
-{
-    match context.program.types.as_slice().get(ty.index()) {
-        Some(ty) => Some(&ty.inner),
-        None => None,
-    }
 }

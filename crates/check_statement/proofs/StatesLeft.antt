@@ -1,6 +1,6 @@
 -- What visits leave, and what one visit more leaves.
 use Rattle.std.proofs.Common.{◌≡◌, List, [], ◌∷◌, ◌++◌, refl, sym, ◌∙◌}
-use Rattle.naga_runs.specs.Positions.{Node, NoNode, StatementNode, BreakIfNode}
+use Rattle.naga_runs.specs.Positions.{BodyNode, NoNode, StatementNode, BreakIfNode}
 use Rattle.naga_runs.specs.Visits.{Visit}
 use Rattle.check_scope.specs.Context.{Context}
 use Rattle.check_statement.specs.Past.{past_of}
@@ -20,7 +20,7 @@ seen_is context visits i =
 pub left_by_none : (context : Context) → begin_state context ≡ state_left context []
 left_by_none context i = record (begin_state context) { trace = sym (no_trace context.trace) i }
 
-abbrev behind_all : Context → State → Node → State
+abbrev behind_all : Context → State → BodyNode → State
 behind_all context state node =
     record {
       stages = stages_behind context state.stages node;
@@ -28,7 +28,7 @@ behind_all context state node =
       trace = with_trace context state.trace node;
     }
 
-behind : (context : Context) (state : State) (node : Node) → behind_all context state node ≡ state_behind context state node
+behind : (context : Context) (state : State) (node : BodyNode) → behind_all context state node ≡ state_behind context state node
 behind context state NoNode = λ i. record state { trace = no_trace state.trace i }
 behind context state (StatementNode x) = refl
 behind context state (BreakIfNode h) = λ i. record state { trace = no_trace state.trace i }

@@ -10,8 +10,8 @@ use Rattle.ir_facts.specs.declared.valid.info.FunctionInfo.{FunctionInfo}
 use Rattle.ir_facts.specs.declared.valid.info.ModuleInfo.{ModuleInfo}
 use Rattle.ir_errors.specs.declared.function.FunctionError.{FunctionError}
 use Rattle.naga_runs.specs.Judgement.{Rules, by_earlier}
-use Rattle.naga_runs.specs.Positions.{Node, NoNode, StatementNode, BreakIfNode}
-use Rattle.naga_runs.specs.Visits.{Place, Visit}
+use Rattle.naga_runs.specs.Positions.{BodyNode, NoNode, StatementNode, BreakIfNode}
+use Rattle.naga_runs.specs.Visits.{VisitPlace, Visit}
 use Rattle.check_memory.specs.Atomic.{atomic_points}
 use Rattle.check_statement.specs.Past.{Past, past_of}
 use Rattle.check_subgroups.specs.Barrier.{barrier_points}
@@ -33,7 +33,7 @@ use Rattle.check_subgroups.specs.SubgroupCollective.{collective_points}
 use Rattle.check_subgroups.specs.SubgroupGather.{gather_points}
 
 -- the check list of a statement that is neither a jump nor holds others, behind what the visits before it did
-abbrev pub leaf_points : Context → Past → Place → Statement → Points
+abbrev pub leaf_points : Context → Past → VisitPlace → Statement → Points
 leaf_points context past place (ir.Emit range) = emit_points context place range.start range.end
 leaf_points context past place (ir.Call f arguments result) =
     call_points context past.filled place f arguments result
@@ -65,7 +65,7 @@ leaf_points context past place (ir.Return value) = []
 leaf_points context past place ir.Kill = []
 
 -- the check list of a statement
-abbrev pub statement_points : Context → Past → Place → Stmt → Points
+abbrev pub statement_points : Context → Past → VisitPlace → Stmt → Points
 statement_points context past place (Leaf acts statement span) = leaf_points context past place statement
 statement_points context past place (Branch h accept reject) = condition_points context place h
 statement_points context past place (Switch h cases) = switch_points context place h cases
@@ -77,7 +77,7 @@ statement_points context past place (Loop b continuing q) = []
 statement_points context past place Kill = []
 
 -- the check list of what stands at a place
-abbrev pub points_at : Context → Past → Place → Node → Points
+abbrev pub points_at : Context → Past → VisitPlace → BodyNode → Points
 points_at context past place NoNode = []
 points_at context past place (StatementNode x) = statement_points context past place x
 points_at context past place (BreakIfNode h) = condition_points context place h
@@ -140,7 +140,7 @@ abbrev pub stages_in : Context → Stmt → ShaderStages
 stages_in context x = stages_of context.settings.subgroup_stages context.earlier x
 
 -- the stages that are left behind a statement. A break condition takes none
-abbrev pub stages_behind : Context → ShaderStages → Node → ShaderStages
+abbrev pub stages_behind : Context → ShaderStages → BodyNode → ShaderStages
 stages_behind context stages (StatementNode x) = meet stages (stages_in context x)
 stages_behind context stages (BreakIfNode h) = stages
 stages_behind context stages NoNode = stages

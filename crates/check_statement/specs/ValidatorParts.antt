@@ -9,7 +9,7 @@ use Rattle.check_scope.specs.declared.trace.TraceState.{TraceState}
 use Rattle.check_scope.specs.declared.trace.TraceRayVertexReturnState.TheVariants.{NoTraceRays}
 
 -- the lower layer, the settings, the info of each type, and what ray traces left
-pub record Parts (B : Type 0) : Type 0 where
+pub record ValidatorParts (B : Type 0) : Type 0 where
   pub below : B
   pub settings : Settings
   pub types : List TypeInfo

@@ -21,7 +21,7 @@ use crate::stages::callee_stages;
 use crate::state::{BodyOutcome, fill_named};
 use bitflags::Flags;
 use check_flow::call::{CallSite, validate_call};
-use check_flow::control;
+use check_flow::{control, emit};
 use check_memory::store::check_store;
 use check_scope::context::BlockContext;
 use check_scope::table::{ScopeColumn, Table};
@@ -90,7 +90,7 @@ pub fn validate_frequent(
     let span = &located.span;
     match &located.statement {
         Statement::Emit(range) => {
-            control::validate_emit(&mut table.scope, &mut table.operands, context, *range, span)?;
+            emit::validate_emit(&mut table.scope, &mut table.operands, context, *range, span)?;
             // it runs in every stage, and bits that stand for none go
             state.stages = state.stages.intersection(ShaderStages::ALL);
             Ok(true)

@@ -9,7 +9,7 @@ use Rattle.ir_statements.specs.declared.operations.GatherMode.{GatherMode}
 use Rattle.ir_statements.specs.declared.operations.GatherMode.TheVariants as gather
 use Rattle.ir_statements.specs.declared.operations.SubgroupOperation.{SubgroupOperation}
 use Rattle.naga_runs.specs.Soundness.{Fit}
-use Rattle.naga_runs.specs.Visits.{Place}
+use Rattle.naga_runs.specs.Visits.{VisitPlace}
 use Rattle.check_subgroups.specs.walk.SubgroupParts.{gathered_points}
 use Rattle.check_scope.specs.Context.{Context}
 use Rattle.check_scope.specs.ScopePoints.{may_use, is_in_scope}
@@ -18,7 +18,7 @@ use Rattle.check_subgroups.specs.SubgroupCollective.{collective_points}
 use Rattle.check_subgroups.specs.SubgroupGather.{index_of, is_broadcast, index_points, gather_points}
 use Rattle.check_scope.proofs.Flat.{holds_at, holds_behind}
 
-module _ (context : Context) (place : Place) where
+module _ (context : Context) (place : VisitPlace) where
   -- a ballot without a predicate puts its result; with one it uses that before
   pub ballot_fits : (r : ℕ) (predicate : Option ℕ) → first_fault (ballot_points context place r predicate) ≡ None → Fit (may_use place) (is_in_scope place) (used_if predicate ++ Put r ∷ [])
   ballot_fits r None e = (not_holds (is_in_scope place r) (holds_at 2 (ballot_points context place r None) e), tt)

@@ -17,7 +17,7 @@ use Rattle.ir_errors.specs.declared.function.FunctionError.{FunctionError}
 use Rattle.ir_errors.specs.declared.function.FunctionError.TheVariants.{InvalidSubgroup, MissingCapability}
 use Rattle.ir_errors.specs.declared.function.SubgroupError.{SubgroupError}
 use Rattle.ir_errors.specs.declared.function.SubgroupError.TheVariants as wrong
-use Rattle.naga_runs.specs.Visits.{Place}
+use Rattle.naga_runs.specs.Visits.{VisitPlace}
 use Rattle.ir_arena.specs.Points.{Point}
 use Rattle.check_scope.specs.Context.{Context}
 use Rattle.check_scope.specs.ScopePoints.{Points, use_point, put_point}
@@ -42,13 +42,13 @@ abbrev pub subgroups_point : Settings → Point FunctionError
 subgroups_point settings = (has_capability settings.capabilities capability.SUBGROUP, MissingCapability capability.SUBGROUP)
 
 -- the predicate, if there is one: put by every run, and a bool of one byte
-abbrev pub predicate_points : Context → Place → Option ℕ → Points
+abbrev pub predicate_points : Context → VisitPlace → Option ℕ → Points
 predicate_points context place None = []
 predicate_points context place (Some h) =
     use_point place h ∷ subgroup_point (is_scalar bool_scalar (type_at context h)) (wrong.InvalidOperand h) ∷ []
 
 -- SubgroupBallot: its predicate; its result is put, of whatever kind
-abbrev pub ballot_points : Context → Place → ℕ → Option ℕ → Points
+abbrev pub ballot_points : Context → VisitPlace → ℕ → Option ℕ → Points
 ballot_points context place r predicate =
     subgroups_point context.settings
     ∷ operations_point context.settings bit.BALLOT
@@ -65,41 +65,8 @@ is_number_kind _ = false
 
 -- the type that the result of a subgroup operation is declared with
 abbrev pub combined_type_of : List IrType → Option Expression → Option TypeInner
-combined_type_of types None = None
 combined_type_of types (Some (e.SubgroupOperationResult ty)) = inner_at types ty
-combined_type_of types (Some (e.Literal l)) = None
-combined_type_of types (Some (e.Constant h)) = None
-combined_type_of types (Some (e.Override h)) = None
-combined_type_of types (Some (e.ZeroValue ty)) = None
-combined_type_of types (Some (e.Compose ty components)) = None
-combined_type_of types (Some (e.Access base index)) = None
-combined_type_of types (Some (e.AccessIndex base index)) = None
-combined_type_of types (Some (e.FunctionArgument i)) = None
-combined_type_of types (Some (e.GlobalVariable h)) = None
-combined_type_of types (Some (e.LocalVariable h)) = None
-combined_type_of types (Some (e.Load pointer)) = None
-combined_type_of types (Some (e.CallResult f)) = None
-combined_type_of types (Some (e.AtomicResult ty comparison)) = None
-combined_type_of types (Some (e.WorkGroupUniformLoadResult ty)) = None
-combined_type_of types (Some e.RayQueryProceedResult) = None
-combined_type_of types (Some e.SubgroupBallotResult) = None
-combined_type_of types (Some (e.Splat detail operands)) = None
-combined_type_of types (Some (e.Swizzle detail operands)) = None
-combined_type_of types (Some (e.ImageSample detail operands)) = None
-combined_type_of types (Some (e.ImageLoad detail operands)) = None
-combined_type_of types (Some (e.ImageQuery detail operands)) = None
-combined_type_of types (Some (e.Unary detail operands)) = None
-combined_type_of types (Some (e.Binary detail operands)) = None
-combined_type_of types (Some (e.Select detail operands)) = None
-combined_type_of types (Some (e.Derivative detail operands)) = None
-combined_type_of types (Some (e.Relational detail operands)) = None
-combined_type_of types (Some (e.Math detail operands)) = None
-combined_type_of types (Some (e.As detail operands)) = None
-combined_type_of types (Some (e.ArrayLength detail operands)) = None
-combined_type_of types (Some (e.RayQueryGetIntersection detail operands)) = None
-combined_type_of types (Some (e.RayQueryVertexPositions detail operands)) = None
-combined_type_of types (Some (e.CooperativeLoad detail operands)) = None
-combined_type_of types (Some (e.CooperativeMultiplyAdd detail operands)) = None
+combined_type_of types _ = None
 
 abbrev pub combined_type_at : Context → ℕ → Option TypeInner
 combined_type_at context r = combined_type_of context.program.types (expression_at context r)

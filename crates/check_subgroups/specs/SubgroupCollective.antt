@@ -9,7 +9,7 @@ use Rattle.ir_leaves.specs.declared.scalars.Scalar.{Scalar}
 use Rattle.ir_types.specs.declared.types.TypeInner.{TypeInner}
 use Rattle.ir_types.specs.declared.types.TypeInner.TheVariants as inner
 use Rattle.ir_errors.specs.declared.function.SubgroupError.TheVariants as wrong
-use Rattle.naga_runs.specs.Visits.{Place}
+use Rattle.naga_runs.specs.Visits.{VisitPlace}
 use Rattle.check_scope.specs.Context.{Context}
 use Rattle.check_scope.specs.ScopePoints.{Points, use_point, put_point}
 use Rattle.check_scope.specs.ExpressionTypes.{is_bool_kind, is_integer_kind, type_at}
@@ -62,7 +62,7 @@ is_done_over over.InclusiveScan o = is_scanned o
 is_done_over over.ExclusiveScan o = is_scanned o
 
 -- SubgroupCollectiveOperation: its argument, its operation, and its result, which is put, and then looked at
-abbrev pub collective_points : Context → Place → SubgroupOperation → CollectiveOperation → ℕ → ℕ → Points
+abbrev pub collective_points : Context → VisitPlace → SubgroupOperation → CollectiveOperation → ℕ → ℕ → Points
 collective_points context place o part argument r =
     subgroups_point context.settings
     ∷ operations_point context.settings (operation_group o)

@@ -10,7 +10,7 @@ use Rattle.ir_types.specs.declared.types.TypeInner.TheVariants as inner
 use Rattle.ir_facts.specs.declared.proc.expression_kinds.ExpressionKind.{ExpressionKind}
 use Rattle.ir_facts.specs.declared.proc.expression_kinds.ExpressionKind.TheVariants as known
 use Rattle.ir_errors.specs.declared.function.SubgroupError.TheVariants as wrong
-use Rattle.naga_runs.specs.Visits.{Place}
+use Rattle.naga_runs.specs.Visits.{VisitPlace}
 use Rattle.check_scope.specs.Context.{Context}
 use Rattle.check_scope.specs.ScopePoints.{Points, use_point, put_point}
 use Rattle.ir_types.specs.TypeTests.{is_scalar}
@@ -45,7 +45,7 @@ abbrev pub is_const_at : Context → ℕ → Bool
 is_const_at context h = is_const (slice_get context.kinds h)
 
 -- the index, if there is one: put by every run, a u32, and in a broadcast const. What is no u32 is told of the argument
-abbrev pub index_points : Context → Place → Bool → ℕ → Option ℕ → Points
+abbrev pub index_points : Context → VisitPlace → Bool → ℕ → Option ℕ → Points
 index_points context place broadcasts argument None = []
 index_points context place broadcasts argument (Some index) =
     use_point place index
@@ -60,7 +60,7 @@ is_gathered (Some (inner.Vector size s)) = is_number_kind s.kind
 is_gathered _ = false
 
 -- SubgroupGather: its index, its argument, and its result, which is put, and then looked at
-abbrev pub gather_points : Context → Place → GatherMode → ℕ → ℕ → Points
+abbrev pub gather_points : Context → VisitPlace → GatherMode → ℕ → ℕ → Points
 gather_points context place mode argument r =
     subgroups_point context.settings
     ∷ operations_point context.settings (gather_group mode)

@@ -23,6 +23,7 @@ use ir_flags::capabilities::Capabilities;
 use ir_flags::valid::SubgroupOperationSet;
 use ir_leaves::scalars::{Scalar, ScalarKind};
 use ir_module::expressions::Expression;
+use ir_types::type_methods::inner_at;
 use ir_types::types::TypeInner;
 
 /// Groups of operations, which the target has.
@@ -150,47 +151,9 @@ fn combined_type<'a>(
     ensures { option_copied result ≡ combined_type_at (context_of context.now) combined }
 {
     match context.expression(combined) {
-        None => None,
         Some(Expression::SubgroupOperationResult { ty }) => {
-            match context.program.types.as_slice().get(ty.index()) {
-                Some(ty) => Some(&ty.inner),
-                None => None,
-            }
+            inner_at(context.program.types.as_slice(), *ty)
         }
-        Some(
-            Expression::Literal(_)
-            | Expression::Constant(_)
-            | Expression::Override(_)
-            | Expression::ZeroValue(_)
-            | Expression::Compose { .. }
-            | Expression::Access { .. }
-            | Expression::AccessIndex { .. }
-            | Expression::FunctionArgument(_)
-            | Expression::GlobalVariable(_)
-            | Expression::LocalVariable(_)
-            | Expression::Load { .. }
-            | Expression::CallResult(_)
-            | Expression::AtomicResult { .. }
-            | Expression::WorkGroupUniformLoadResult { .. }
-            | Expression::RayQueryProceedResult
-            | Expression::SubgroupBallotResult
-            | Expression::Splat { .. }
-            | Expression::Swizzle { .. }
-            | Expression::ImageSample { .. }
-            | Expression::ImageLoad { .. }
-            | Expression::ImageQuery { .. }
-            | Expression::Unary { .. }
-            | Expression::Binary { .. }
-            | Expression::Select { .. }
-            | Expression::Derivative { .. }
-            | Expression::Relational { .. }
-            | Expression::Math { .. }
-            | Expression::As { .. }
-            | Expression::ArrayLength { .. }
-            | Expression::RayQueryGetIntersection { .. }
-            | Expression::RayQueryVertexPositions { .. }
-            | Expression::CooperativeLoad { .. }
-            | Expression::CooperativeMultiplyAdd { .. },
-        ) => None,
+        _ => None,
     }
 }

@@ -4,6 +4,7 @@ use Rattle.ir_flags.specs.Bits.{contains, STORE, COHERENT, VOLATILE}
 use Rattle.ir_flags.specs.Capabilities.{has_capability, MEMORY_DECORATION_COHERENT, MEMORY_DECORATION_VOLATILE}
 use Rattle.ir_arena.specs.Points.{Point}
 use Rattle.ir_types.specs.Types.{inner_at}
+use Rattle.ir_types.specs.SpaceTests.{is_task_payload}
 use Rattle.ir_flags.specs.declared.ir.MemoryDecorations.{MemoryDecorations}
 use Rattle.ir_module.specs.declared.module.GlobalVariable.{GlobalVariable}
 use Rattle.ir_module.specs.declared.module.ResourceBinding.{ResourceBinding}
@@ -21,8 +22,9 @@ use Rattle.ir_types.specs.declared.type_info.Disalignment.{Disalignment}
 use Rattle.ir_types.specs.declared.type_info.ImmediateError.{ImmediateError}
 use Rattle.ir_types.specs.declared.type_info.TypeInfo.{TypeInfo}
 use Rattle.check_variables.specs.Locals.{is_const_or_override, is_declared_as}
-use Rattle.check_variables.specs.Spaces.{Layout, StorageLayout, UniformLayout, row_of, all_of, takes_arrays, array_needs, is_resource, format_needs, takes_initializers, is_storage, is_task_payload}
-use Rattle.ir_types.specs.TypeInfos.{info_has}
+use Rattle.ir_types.specs.SpaceTests.{is_storage}
+use Rattle.check_variables.specs.Spaces.{Layout, StorageLayout, UniformLayout, row_of, takes_arrays, array_needs, is_resource, format_needs, takes_initializers}
+use Rattle.ir_types.specs.TypeInfos.{all_of, info_has}
 use Rattle.ir_facts.specs.WhatIsChecked.{checks_layouts, checks_bindings}
 use Rattle.ir_errors.specs.declared.interface.GlobalVariableError.{GlobalVariableError}
 use Rattle.ir_errors.specs.declared.interface.GlobalVariableError.TheVariants.{InvalidUsage, InvalidType, MissingTypeFlags, UnsupportedCapability, InvalidBinding, Alignment, InitializerExprType, InitializerType, InitializerNotAllowed, StorageAddressSpaceWriteOnlyNotSupported, InvalidImmediateType, ZeroSizedTaskPayload, InvalidMemoryDecorationsAddressSpace, CoherentNotSupported, VolatileNotSupported}

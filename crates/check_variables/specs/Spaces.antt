@@ -1,7 +1,6 @@
 -- What an address space asks for of a global that lies in it: a table of one row a space, and what binding arrays need.
-use Rattle.std.specs.Int.RustNames.{bit_or}
 use Rattle.std.specs.Prelude.{Bool, true, false, List, [], ◌∷◌, Option, None, Some, if◌then◌else◌}
-use Rattle.ir_flags.specs.Bits.{NO_TYPE_FLAG, DATA, SIZED, COPY, HOST_SHAREABLE, CREATION_RESOLVED, CONSTRUCTIBLE}
+use Rattle.ir_flags.specs.Bits.{DATA, SIZED, COPY, HOST_SHAREABLE, CREATION_RESOLVED, CONSTRUCTIBLE}
 use Rattle.ir_flags.specs.Capabilities.{ACCELERATION_STRUCTURE_BINDING_ARRAY, BUFFER_BINDING_ARRAY, IMMEDIATES, MESH_SHADER, RAY_TRACING_PIPELINE, STORAGE_BUFFER_BINDING_ARRAY, STORAGE_TEXTURE_16BIT_NORM_FORMATS, STORAGE_TEXTURE_BINDING_ARRAY, TEXTURE_AND_SAMPLER_BINDING_ARRAY}
 use Rattle.ir_types.specs.declared.types.AddressSpace.{AddressSpace}
 use Rattle.ir_types.specs.declared.types.AddressSpace.TheVariants as space
@@ -13,11 +12,7 @@ use Rattle.ir_types.specs.declared.types.TypeInner.{TypeInner}
 use Rattle.ir_types.specs.declared.types.TypeInner.TheVariants as inner
 use Rattle.ir_flags.specs.declared.capabilities.Capabilities.{Capabilities}
 use Rattle.ir_flags.specs.declared.valid.TypeFlags.{TypeFlags}
-
--- all of these flags
-abbrev pub all_of : List TypeFlags → TypeFlags
-all_of [] = NO_TYPE_FLAG
-all_of (flag ∷ flags) = record { 0 = bit_or flag.0 (all_of flags).0 }
+use Rattle.ir_types.specs.TypeInfos.{all_of}
 
 -- which of its two layouts a type must have
 pub data Layout : Type 0 where
@@ -131,29 +126,3 @@ takes_initializers space.Immediate = false
 takes_initializers space.TaskPayload = false
 takes_initializers space.RayPayload = false
 takes_initializers space.IncomingRayPayload = false
-
--- the space of storage, whatever may be done there
-abbrev pub is_storage : AddressSpace → Bool
-is_storage space.Function = false
-is_storage space.Private = false
-is_storage space.WorkGroup = false
-is_storage space.Uniform = false
-is_storage (space.Storage access) = true
-is_storage space.Handle = false
-is_storage space.Immediate = false
-is_storage space.TaskPayload = false
-is_storage space.RayPayload = false
-is_storage space.IncomingRayPayload = false
-
--- the space of task payloads
-abbrev pub is_task_payload : AddressSpace → Bool
-is_task_payload space.Function = false
-is_task_payload space.Private = false
-is_task_payload space.WorkGroup = false
-is_task_payload space.Uniform = false
-is_task_payload (space.Storage access) = false
-is_task_payload space.Handle = false
-is_task_payload space.Immediate = false
-is_task_payload space.TaskPayload = true
-is_task_payload space.RayPayload = false
-is_task_payload space.IncomingRayPayload = false

@@ -3,7 +3,7 @@
 ghost use Rattle.std.specs.Prelude.{◌≡◌, ◌<◌, IfOk, IfSome, Some, All, length, slice_get};
 ghost use Rattle.ir_types.specs.Types.{NameEachOther, ResolutionFits, inner_at};
 ghost use Rattle.check_variables.specs.Globals.{global_points, array_points, element_of, asked_type, capability_points, good_layout_points, immediate_points, resource_points, place_points, space_points, type_points, decoration_points, variable_points, global_initializer_points};
-ghost use Rattle.check_variables.specs.Spaces.{row_of, resource_array_needs, is_16bit_norm, is_storage, is_task_payload, takes_initializers};
+ghost use Rattle.check_variables.specs.Spaces.{row_of, resource_array_needs, is_16bit_norm, takes_initializers};
 ghost use Rattle.ir_facts.specs.Answers.{Finds, FirstOf};
 
 use bitflags::Flags;
@@ -65,7 +65,8 @@ pub fn check_global(
     requires one_type_each { length global_types.now ≡ length kinds.now }
     requires types { NameEachOther types.now }
     requires resolved { All (ResolutionFits (length types.now)) global_types.now }
-    ensures { Finds (FirstOf (global_points types.now infos.now flags capabilities size kinds.now global_types.now var.now)) result }
+    ensures { Finds (FirstOf (global_points types.now infos.now flags capabilities size
+        kinds.now global_types.now var.now)) result }
 {
     let context = TypeContext {
         types,
@@ -376,7 +377,7 @@ fn check_variable(
     {
         return Err(GlobalVariableError::InvalidBinding);
     }
-    if is_task_payload(var.space) && size == Some(0) {
+    if var.space.is_task_payload() && size == Some(0) {
         return Err(GlobalVariableError::ZeroSizedTaskPayload);
     }
     check_decorations(var.space, var.memory_decorations, capabilities)
@@ -390,7 +391,7 @@ fn check_decorations(
 ) -> Result<(), GlobalVariableError>
     ensures { Finds (FirstOf (decoration_points capabilities space decorations)) result }
 {
-    if !decorations.is_empty() && !is_storage(space) {
+    if !decorations.is_empty() && !space.is_storage() {
         return Err(GlobalVariableError::InvalidMemoryDecorationsAddressSpace);
     }
     if decorations.contains(MemoryDecorations::COHERENT)
@@ -404,42 +405,6 @@ fn check_decorations(
         return Err(GlobalVariableError::VolatileNotSupported);
     }
     Ok(())
-}
-
-/// Whether a space is that of storage, whatever may be done there.
-fn is_storage(space: AddressSpace) -> bool
-    ensures { result ≡ is_storage space }
-{
-    match space {
-        AddressSpace::Storage { .. } => true,
-        AddressSpace::Function
-        | AddressSpace::Private
-        | AddressSpace::WorkGroup
-        | AddressSpace::Uniform
-        | AddressSpace::Handle
-        | AddressSpace::Immediate
-        | AddressSpace::TaskPayload
-        | AddressSpace::RayPayload
-        | AddressSpace::IncomingRayPayload => false,
-    }
-}
-
-/// Whether a space is that of task payloads.
-fn is_task_payload(space: AddressSpace) -> bool
-    ensures { result ≡ is_task_payload space }
-{
-    match space {
-        AddressSpace::TaskPayload => true,
-        AddressSpace::Function
-        | AddressSpace::Private
-        | AddressSpace::WorkGroup
-        | AddressSpace::Uniform
-        | AddressSpace::Storage { .. }
-        | AddressSpace::Handle
-        | AddressSpace::Immediate
-        | AddressSpace::RayPayload
-        | AddressSpace::IncomingRayPayload => false,
-    }
 }
 
 /// An initializer: the space of the variable takes one, its value is known before the pipeline runs, and it has the
@@ -456,7 +421,8 @@ fn check_initializer(
     requires one_type_each { length global_types.now ≡ length kinds.now }
     requires types { NameEachOther types.now }
     requires resolved { All (ResolutionFits (length types.now)) global_types.now }
-    ensures { Finds (FirstOf (global_initializer_points types.now kinds.now global_types.now var.now.space var.now.ty (Some init))) result }
+    ensures { Finds (FirstOf (global_initializer_points types.now kinds.now global_types.now
+        var.now.space var.now.ty (Some init))) result }
 {
     if !takes_initializers(var.space) {
         return Err(GlobalVariableError::InitializerNotAllowed(var.space));

@@ -2,8 +2,6 @@
 
 ghost use Rattle.std.specs.Prelude.{◌≡◌, ◌<◌, length};
 ghost use Rattle.std.specs.Prelude.{Some};
-ghost use Rattle.ir_flags.specs.Bits.{IO_SHAREABLE};
-ghost use Rattle.ir_types.specs.TypeInfos.{type_has};
 ghost use Rattle.ir_types.specs.Types.{NamesTypesBelow, NameEachOther, inner_at};
 
 use crate::varying::VaryingPlace;
@@ -11,7 +9,6 @@ use ir_arena::handle::Handle;
 use ir_arena::span::{Refusal, WithSpan};
 use ir_arena::tag;
 use ir_errors::interface::VaryingError;
-use ir_flags::valid::TypeFlags;
 use ir_types::type_info::TypeInfo;
 use ir_types::types::{Type, TypeInner};
 use ir_types::unique_arena::UniqueArena;
@@ -36,17 +33,6 @@ impl<'a> VaryingContext<'a> {
         ensures named { NamesTypesBelow (length self.now.types.now) result.now }
     {
         &self.types[ty].inner
-    }
-
-    /// Whether a type of the module is shared between stages.
-    pub(crate) fn is_shareable(&self, ty: Handle<tag::Type>) -> bool
-        requires ty { ty < length self.now.types.now }
-        requires infos { length self.now.infos.now ≡ length self.now.types.now }
-        ensures { result ≡ type_has self.now.infos.now ty IO_SHAREABLE }
-    {
-        self.infos[ty.index()]
-            .flags
-            .contains(TypeFlags::IO_SHAREABLE)
     }
 
     /// The refusal for a fault.

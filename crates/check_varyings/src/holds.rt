@@ -17,6 +17,7 @@ use ir_flags::capabilities::Capabilities;
 use ir_leaves::bindings::{Binding, Interpolation, Sampling};
 use ir_leaves::built_in::BuiltIn;
 use ir_leaves::scalars::ScalarKind;
+use ir_types::type_info::is_shareable;
 
 /// Whether no point of what is bound fails, as far as these tests show. Where they don't, `first_fault_of_bound` decides.
 pub(crate) fn bound_holds(
@@ -93,7 +94,7 @@ fn location_holds(
     !at.per_primitive
         && !is_per_vertex(at.interpolation)
         && at.blend_src.is_none()
-        && context.is_shareable(ty)
+        && is_shareable(context.infos, ty)
         && !is_primitive_output(context.place)
         && may_take(context.place, state, at.location)
         && interpolation_holds(context, ty, at.interpolation, at.sampling)

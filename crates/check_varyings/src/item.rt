@@ -24,7 +24,7 @@ use ir_errors::interface::VaryingError;
 use ir_flags::valid::ValidationFlags;
 use ir_leaves::bindings::Binding;
 use ir_leaves::stage::ShaderStage;
-use ir_types::type_info::TypeInfo;
+use ir_types::type_info::{TypeInfo, is_shareable};
 use ir_types::types::{StructMember, Type, TypeInner};
 use ir_types::unique_arena::UniqueArena;
 use std::alloc::{AllocError, Global};
@@ -201,7 +201,7 @@ fn check_unbound_item(
     let TypeInner::Struct { members, .. } = context.inner(ty) else {
         return check_unbound(context);
     };
-    if context.is_shareable(ty) {
+    if is_shareable(context.infos, ty) {
         check_blend_sources(context, state)
     } else {
         check_struct(context, state, members.as_slice())

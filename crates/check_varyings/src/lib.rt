@@ -7,9 +7,9 @@ mod built_in_number;
 mod context;
 mod holds;
 pub mod item;
-pub mod laws;
+mod laws;
 mod location;
-pub mod rule;
+mod rule;
 mod small_set;
 pub mod varying;
 

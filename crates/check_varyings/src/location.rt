@@ -17,6 +17,7 @@ use ir_flags::valid::ValidationFlags;
 use ir_leaves::bindings::{Interpolation, Sampling};
 use ir_leaves::scalars::ScalarKind;
 use ir_leaves::stage::ShaderStage;
+use ir_types::type_info::is_shareable;
 use ir_types::types::{ArraySize, TypeInner};
 
 /// What a binding says of a location.
@@ -136,7 +137,8 @@ fn check_carried(
     ensures { Finds (FirstOf (
         sharing_points context.now.place.now context.now.infos.now (seen_in state.now) ty at.location at.blend_src
         at.per_primitive
-        ++ interpolation_points context.now.place.now context.now.types.now ty at.interpolation at.sampling at.per_primitive)) result }
+        ++ interpolation_points context.now.place.now context.now.types.now ty
+        at.interpolation at.sampling at.per_primitive)) result }
 {
     check_sharing(context, state, ty, at)?;
     check_interpolation(context, ty, at)
@@ -151,11 +153,11 @@ fn check_sharing(
 ) -> Result<(), VaryingError>
     requires ty { ty < length context.now.types.now }
     requires infos { length context.now.infos.now ≡ length context.now.types.now }
-    ensures { Finds (FirstOf (sharing_points context.now.place.now context.now.infos.now (seen_in state.now) ty at.location at.blend_src
-        at.per_primitive)) result }
+    ensures { Finds (FirstOf (sharing_points context.now.place.now context.now.infos.now
+        (seen_in state.now) ty at.location at.blend_src at.per_primitive)) result }
 {
     let place = context.place;
-    if !context.is_shareable(ty) {
+    if !is_shareable(context.infos, ty) {
         return Err(VaryingError::NotIOShareableType(ty));
     }
     if place.mesh_output == MeshOutputType::PrimitiveOutput {
@@ -198,7 +200,8 @@ fn check_interpolation(
 ) -> Result<(), VaryingError>
     requires ty { ty < length context.now.types.now }
     requires types { NameEachOther context.now.types.now }
-    ensures { Finds (FirstOf (interpolation_points context.now.place.now context.now.types.now ty at.interpolation at.sampling at.per_primitive)) result }
+    ensures { Finds (FirstOf (interpolation_points context.now.place.now context.now.types.now ty
+        at.interpolation at.sampling at.per_primitive)) result }
 {
     let place = context.place;
     if let (Some(interpolation), Some(sampling)) = (at.interpolation, at.sampling)

@@ -7,7 +7,7 @@ pub mod duplicate;
 pub mod handle;
 pub mod positions;
 pub mod range;
-pub mod refused;
+mod refused;
 pub mod sequence;
 pub mod span;
 pub mod tag;

@@ -5,7 +5,7 @@ use Rattle.std.specs.Option.{option_or}
 use Rattle.std.specs.Result.{result_err}
 use Rattle.ir_arena.specs.declared.span.Refusal.{Refusal}
 use Rattle.ir_arena.specs.declared.span.Refusal.TheVariants as refusal
-use Rattle.ir_facts.specs.Answers.{IsFirstFault, Answers, FirstOf, Exactly, leaving}
+use Rattle.ir_facts.specs.Answers.{IsFirstFault, Answers, FirstOf, Exactly, leaving, read_by}
 use Rattle.ir_arena.specs.Points.{and_then, Point, first_fault}
 use Rattle.ir_arena.specs.Refusals.{IsRefusalFor}
 use Rattle.ir_arena.proofs.Points.{first_of_both}
@@ -32,6 +32,11 @@ pub refuses_second : {T E : Type 0} (r : Result T (Refusal E)) (first second : L
 refuses_second (Ok t) first second e h = first_of_both first second ∙ ap (λ o. option_or o (first_fault second)) e ∙ h
 refuses_second (Err (refusal.Fault f)) first second e h = first_of_both first second ∙ ap (λ o. option_or o (first_fault second)) e ∙ h
 refuses_second (Err refusal.Memory) first second e h = tt
+
+-- a refusal stays one, however its fault is read
+pub stays_refused : {A E F : Type 0} (read : E → F) (r : Result A (Refusal E)) → IsErr r → IsErr (read_by read r)
+stays_refused read (Err refused) e = e
+stays_refused read (Ok x) e = e
 
 pub passes : {S E : Type 0} (o : Result S E) (f : S → Result S E) (st end : S) → o ≡ Ok st → f st ≡ Ok end → and_then o f ≡ Ok end
 passes o f st end e g = ap (λ z. and_then z f) e ∙ g

@@ -17,8 +17,10 @@ use Rattle.ir_misfits.specs.MisfitPoints.{MisfitPoints, named, named_if}
 -- what entry point k says of its mesh: the overrides, the types and the variable are there
 abbrev pub mesh_points : Module → ℕ → MeshStageInfo → MisfitPoints
 mesh_points m k i =
-    named_if (place.InEntryPoint k field.MaxVerticesOverride) handle.GlobalExpressions (length m.global_expressions) i.max_vertices_override
-    ++ (named_if (place.InEntryPoint k field.MaxPrimitivesOverride) handle.GlobalExpressions (length m.global_expressions) i.max_primitives_override
+    named_if (place.InEntryPoint k field.MaxVerticesOverride) handle.GlobalExpressions (length m.global_expressions)
+    i.max_vertices_override
+    ++ (named_if (place.InEntryPoint k field.MaxPrimitivesOverride) handle.GlobalExpressions (length m.global_expressions)
+    i.max_primitives_override
     ++ (named (place.InEntryPoint k field.VertexOutputType) handle.Types (length m.types) i.vertex_output_type
     ∷ named (place.InEntryPoint k field.PrimitiveOutputType) handle.Types (length m.types) i.primitive_output_type
     ∷ named (place.InEntryPoint k field.OutputVariable) handle.GlobalVariables (length m.global_variables) i.output_variable

@@ -5,14 +5,11 @@ ghost use Rattle.std.specs.Prelude.{◌↔◌, IsTrue};
 ghost use Rattle.ir_facts.specs.Fits.{FitsTypes, FitsGlobals, FitsFunction, FitsEntry};
 
 use crate::entry::{avoid_function_space, mesh_fits};
-use crate::function::locals_fit;
+use crate::function::fits_function_with;
 use crate::globals::check_globals_fit;
 use crate::types::check_types_fit;
 use ir_facts::valid::info::ModuleInfo;
-use ir_misfits::expressions::{name_earlier_expressions, references_fit};
 use ir_misfits::naming::is_below_if_any;
-use ir_misfits::signature::signature_fits;
-use ir_misfits::statements::body_fits;
 use ir_module::functions::Function;
 use ir_module::module::{EntryPoint, Module};
 
@@ -44,12 +41,7 @@ pub fn fits_globals(module: &Module, mod_info: &ModuleInfo) -> bool
 pub fn fits_function(fun: &Function, module: &Module, earlier: usize) -> bool
     ensures { IsTrue result ↔ FitsFunction fun.now «module».now earlier }
 {
-    let expressions = fun.expressions.as_slice();
-    signature_fits(fun, module)
-        && locals_fit(fun.local_variables.as_slice(), fun, module)
-        && name_earlier_expressions(expressions)
-        && references_fit(expressions, fun, module)
-        && body_fits(fun, module, earlier)
+    fits_function_with(fun, module, &[], earlier)
 }
 
 /// Whether all that the entry point names besides its function exists, and no global is in `AddressSpace::Function`.

@@ -3,7 +3,6 @@
 ghost use Rattle.std.specs.Prelude.{◌≡◌, ◌∷◌, []};
 ghost use Rattle.std.specs.Option.{option_copied};
 ghost use Rattle.ir_arena.specs.Points.{points_of_each};
-ghost use Rattle.ir_types.specs.Types.{inner_at};
 ghost use Rattle.ir_fits.specs.OfGlobals.{is_unbindable, is_unbindable_array, is_bindable, global_points, resolution_points, one_type_each, globals_points};
 ghost use Rattle.ir_facts.specs.Answers.{Finds, FirstOf};
 
@@ -15,6 +14,7 @@ use ir_misfits::misfit::{
     HandleOf, Misfit, Owner, Place, Problem, TypeField, TypeOwner, VariableField,
 };
 use ir_module::module::{GlobalVariable, Module};
+use ir_types::type_methods::inner_at;
 use ir_types::types::{AddressSpace, ImageClass, Type, TypeInner};
 use ir_types::typifier::TypeResolution;
 use ir_types::unique_arena::UniqueArena;
@@ -50,22 +50,15 @@ fn is_unbindable(inner: Option<&TypeInner>) -> bool
     )
 }
 
-/// The type with this handle, if it is there.
-fn inner_at(types: &UniqueArena<Type>, ty: Handle<tag::Type>) -> Option<&TypeInner>
-    ensures { option_copied result ≡ inner_at types.now ty }
-{
-    match types.as_slice().get(ty.index()) {
-        Some(ty) => Some(&ty.inner),
-        None => None,
-    }
-}
-
 /// Whether a type is a binding array of external images or ray queries; if its base isn't there, it is none.
 fn is_unbindable_array(inner: Option<&TypeInner>, types: &UniqueArena<Type>) -> bool
     ensures { result ≡ is_unbindable_array types.now (option_copied inner.entry) }
 {
     match inner {
-        Some(TypeInner::BindingArray { base, .. }) => is_unbindable(inner_at(types, *base)),
+        Some(TypeInner::BindingArray { base, .. }) => is_unbindable(inner_at(
+            types.as_slice(),
+            *base,
+        )),
         _ => false,
     }
 }
@@ -75,7 +68,7 @@ fn is_bindable(types: &UniqueArena<Type>, space: AddressSpace, ty: Handle<tag::T
     ensures { result ≡ is_bindable types.now space ty }
 {
     match space {
-        AddressSpace::Handle => !is_unbindable_array(inner_at(types, ty), types),
+        AddressSpace::Handle => !is_unbindable_array(inner_at(types.as_slice(), ty), types),
         AddressSpace::Function
         | AddressSpace::Private
         | AddressSpace::WorkGroup

@@ -11,7 +11,7 @@ mod types;
 
 pub use crate::entry::check_entry_fits;
 pub use crate::fits::{fits_entry, fits_function, fits_globals, fits_types};
-pub use crate::function::check_function_fits;
+pub use crate::function::{check_function_fits, fits_function_with};
 pub use crate::globals::check_globals_fit;
 pub use crate::laws::misfits_law;
 pub use crate::types::check_types_fit;

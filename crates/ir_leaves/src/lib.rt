@@ -1,5 +1,5 @@
-//! The parts of types that hold no handle: scalars, formats of images, bindings, built-ins, stages and names (naga 30.0.1's `ir`).
-//! Users import these from `naga_below`.
+//! The parts of types that hold no handle: scalars, formats of images, bindings, built-ins, stages and names (naga 30.0.1's
+//! `ir`). Users import these from `naga_below`.
 #![tactic(auto)]
 
 pub mod bindings;

@@ -3,6 +3,7 @@ pub mod ExactParts
 pub mod ExactBodies
 pub mod Fitting
 pub mod Lists
+pub mod Marks
 pub mod Tails
 pub mod Tests
 pub mod Walks

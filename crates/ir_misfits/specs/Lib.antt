@@ -1,5 +1,6 @@
 pub mod MisfitPoints
 pub mod OfSignatures
+pub mod FittingSignatures
 pub mod OfExpressions
 pub mod OfBodies
 pub mod ShortFacts

@@ -6,6 +6,7 @@ ghost use Rattle.ir_module.specs.Operands.{operands_of};
 ghost use Rattle.ir_facts.specs.Fits.{NameEarlierExpressions, ReferencesFit};
 ghost use Rattle.ir_misfits.specs.MisfitPoints.{points_if};
 ghost use Rattle.ir_misfits.specs.OfExpressions.{expressions_of, operand_points, operands_points, expressions_points, reference_points};
+ghost use Rattle.ir_misfits.specs.FittingSignatures.{MarkFitting};
 ghost use Rattle.ir_facts.specs.Answers.{Finds, FirstOf};
 
 use crate::misfit::{HandleOf, Misfit, Owner, Place};
@@ -112,118 +113,150 @@ fn first_misfit_of_expressions(owner: Owner, expressions: &[Expression]) -> Resu
     Ok(())
 }
 
-/// Whether what the expression names besides its operands is there.
-fn has_reference(expression: &Expression, fun: &Function, module: &Module) -> bool
-    ensures { IsTrue result ↔ ReferencesFit «module».now fun.now expression.now }
-{
-    match expression {
-        Expression::Constant(handle) => handle.index() < module.constants.len(),
-        Expression::Override(handle) => handle.index() < module.overrides.len(),
-        Expression::ZeroValue(ty)
-        | Expression::Compose { ty, .. }
-        | Expression::AtomicResult { ty, .. }
-        | Expression::WorkGroupUniformLoadResult { ty }
-        | Expression::SubgroupOperationResult { ty } => ty.index() < module.types.len(),
-        Expression::GlobalVariable(handle) => handle.index() < module.global_variables.len(),
-        Expression::LocalVariable(handle) => handle.index() < fun.local_variables.len(),
-        Expression::CallResult(function) => callee_fits(*function, module),
-        Expression::Literal(_)
-        | Expression::Access { .. }
-        | Expression::AccessIndex { .. }
-        | Expression::FunctionArgument(_)
-        | Expression::Load { .. }
-        | Expression::RayQueryProceedResult
-        | Expression::SubgroupBallotResult
-        | Expression::Splat { .. }
-        | Expression::Swizzle { .. }
-        | Expression::ImageSample { .. }
-        | Expression::ImageLoad { .. }
-        | Expression::ImageQuery { .. }
-        | Expression::Unary { .. }
-        | Expression::Binary { .. }
-        | Expression::Select { .. }
-        | Expression::Derivative { .. }
-        | Expression::Relational { .. }
-        | Expression::Math { .. }
-        | Expression::As { .. }
-        | Expression::ArrayLength { .. }
-        | Expression::RayQueryGetIntersection { .. }
-        | Expression::RayQueryVertexPositions { .. }
-        | Expression::CooperativeLoad { .. }
-        | Expression::CooperativeMultiplyAdd { .. } => true,
+/// What the expressions of a function may name: its locals, and what the module has. A true mark of `fitting`, indexed by
+/// handles of functions, says that the signature is known to fit.
+#[derive(Drop)]
+struct ReferenceRanges<'a> {
+    fun: &'a Function,
+    module: &'a Module,
+    fitting: &'a [bool],
+}
+
+impl ReferenceRanges<'_> {
+    /// Whether what the expression names besides its operands is there.
+    fn has(&self, expression: &Expression) -> bool
+        requires fitting { MarkFitting self.now.«module».now self.now.fitting.now }
+        ensures { IsTrue result ↔ ReferencesFit self.now.«module».now self.now.fun.now expression.now }
+    {
+        match expression {
+            Expression::Constant(handle) => handle.index() < self.module.constants.len(),
+            Expression::Override(handle) => handle.index() < self.module.overrides.len(),
+            Expression::ZeroValue(ty)
+            | Expression::Compose { ty, .. }
+            | Expression::AtomicResult { ty, .. }
+            | Expression::WorkGroupUniformLoadResult { ty }
+            | Expression::SubgroupOperationResult { ty } => ty.index() < self.module.types.len(),
+            Expression::GlobalVariable(handle) => handle.index()
+                < self.module.global_variables.len(),
+            Expression::LocalVariable(handle) => handle.index() < self.fun.local_variables.len(),
+            Expression::CallResult(function) => callee_fits(*function, self.module, self.fitting),
+            Expression::Literal(_)
+            | Expression::Access { .. }
+            | Expression::AccessIndex { .. }
+            | Expression::FunctionArgument(_)
+            | Expression::Load { .. }
+            | Expression::RayQueryProceedResult
+            | Expression::SubgroupBallotResult
+            | Expression::Splat { .. }
+            | Expression::Swizzle { .. }
+            | Expression::ImageSample { .. }
+            | Expression::ImageLoad { .. }
+            | Expression::ImageQuery { .. }
+            | Expression::Unary { .. }
+            | Expression::Binary { .. }
+            | Expression::Select { .. }
+            | Expression::Derivative { .. }
+            | Expression::Relational { .. }
+            | Expression::Math { .. }
+            | Expression::As { .. }
+            | Expression::ArrayLength { .. }
+            | Expression::RayQueryGetIntersection { .. }
+            | Expression::RayQueryVertexPositions { .. }
+            | Expression::CooperativeLoad { .. }
+            | Expression::CooperativeMultiplyAdd { .. } => true,
+        }
+    }
+
+    /// What the expression at `place` names besides its operands is there.
+    fn check(&self, owner: Owner, place: usize, expression: &Expression) -> Result<(), Misfit>
+        requires fitting { MarkFitting self.now.«module».now self.now.fitting.now }
+        ensures { Finds (FirstOf (reference_points self.now.«module».now self.now.fun.now owner place
+            expression.now)) result }
+    {
+        let place = Place::Reference(owner, place);
+        match expression {
+            Expression::Constant(handle) => {
+                place.names(
+                    HandleOf::Constants,
+                    handle.index(),
+                    self.module.constants.len(),
+                )
+            }
+            Expression::Override(handle) => {
+                place.names(
+                    HandleOf::Overrides,
+                    handle.index(),
+                    self.module.overrides.len(),
+                )
+            }
+            Expression::ZeroValue(ty)
+            | Expression::Compose { ty, .. }
+            | Expression::AtomicResult { ty, .. }
+            | Expression::WorkGroupUniformLoadResult { ty }
+            | Expression::SubgroupOperationResult { ty } => {
+                place.names(HandleOf::Types, ty.index(), self.module.types.len())
+            }
+            Expression::GlobalVariable(handle) => place.names(
+                HandleOf::GlobalVariables,
+                handle.index(),
+                self.module.global_variables.len(),
+            ),
+            Expression::LocalVariable(handle) => place.names(
+                HandleOf::LocalVariables,
+                handle.index(),
+                self.fun.local_variables.len(),
+            ),
+            Expression::CallResult(function) => check_callee(
+                place,
+                *function,
+                self.module,
+                self.fitting,
+            ),
+            Expression::Literal(_)
+            | Expression::Access { .. }
+            | Expression::AccessIndex { .. }
+            | Expression::FunctionArgument(_)
+            | Expression::Load { .. }
+            | Expression::RayQueryProceedResult
+            | Expression::SubgroupBallotResult
+            | Expression::Splat { .. }
+            | Expression::Swizzle { .. }
+            | Expression::ImageSample { .. }
+            | Expression::ImageLoad { .. }
+            | Expression::ImageQuery { .. }
+            | Expression::Unary { .. }
+            | Expression::Binary { .. }
+            | Expression::Select { .. }
+            | Expression::Derivative { .. }
+            | Expression::Relational { .. }
+            | Expression::Math { .. }
+            | Expression::As { .. }
+            | Expression::ArrayLength { .. }
+            | Expression::RayQueryGetIntersection { .. }
+            | Expression::RayQueryVertexPositions { .. }
+            | Expression::CooperativeLoad { .. }
+            | Expression::CooperativeMultiplyAdd { .. } => Ok(()),
+        }
     }
 }
 
-/// Whether what each expression of a function names besides its operands is there.
-pub fn references_fit(expressions: &[Expression], fun: &Function, module: &Module) -> bool
-    ensures { IsTrue result ↔ All (ReferencesFit «module».now fun.now) expressions.now }
-{
-    expressions
-        .iter()
-        .all(|expression| has_reference(expression, fun, module))
-}
-
-/// What the expression at `place` names besides its operands is there.
-fn check_reference(
-    owner: Owner,
-    place: usize,
-    expression: &Expression,
+/// Whether what each expression of a function names besides its operands is there. A true mark of `fitting`, indexed by
+/// handles of functions, says that the signature is known to fit.
+pub fn references_fit(
+    expressions: &[Expression],
     fun: &Function,
     module: &Module,
-) -> Result<(), Misfit>
-    ensures { Finds (FirstOf (reference_points «module».now fun.now owner place expression.now)) result }
+    fitting: &[bool],
+) -> bool
+    requires fitting { MarkFitting «module».now fitting.now }
+    ensures { IsTrue result ↔ All (ReferencesFit «module».now fun.now) expressions.now }
 {
-    let place = Place::Reference(owner, place);
-    match expression {
-        Expression::Constant(handle) => {
-            place.names(HandleOf::Constants, handle.index(), module.constants.len())
-        }
-        Expression::Override(handle) => {
-            place.names(HandleOf::Overrides, handle.index(), module.overrides.len())
-        }
-        Expression::ZeroValue(ty)
-        | Expression::Compose { ty, .. }
-        | Expression::AtomicResult { ty, .. }
-        | Expression::WorkGroupUniformLoadResult { ty }
-        | Expression::SubgroupOperationResult { ty } => {
-            place.names(HandleOf::Types, ty.index(), module.types.len())
-        }
-        Expression::GlobalVariable(handle) => place.names(
-            HandleOf::GlobalVariables,
-            handle.index(),
-            module.global_variables.len(),
-        ),
-        Expression::LocalVariable(handle) => place.names(
-            HandleOf::LocalVariables,
-            handle.index(),
-            fun.local_variables.len(),
-        ),
-        Expression::CallResult(function) => check_callee(place, *function, module),
-        Expression::Literal(_)
-        | Expression::Access { .. }
-        | Expression::AccessIndex { .. }
-        | Expression::FunctionArgument(_)
-        | Expression::Load { .. }
-        | Expression::RayQueryProceedResult
-        | Expression::SubgroupBallotResult
-        | Expression::Splat { .. }
-        | Expression::Swizzle { .. }
-        | Expression::ImageSample { .. }
-        | Expression::ImageLoad { .. }
-        | Expression::ImageQuery { .. }
-        | Expression::Unary { .. }
-        | Expression::Binary { .. }
-        | Expression::Select { .. }
-        | Expression::Derivative { .. }
-        | Expression::Relational { .. }
-        | Expression::Math { .. }
-        | Expression::As { .. }
-        | Expression::ArrayLength { .. }
-        | Expression::RayQueryGetIntersection { .. }
-        | Expression::RayQueryVertexPositions { .. }
-        | Expression::CooperativeLoad { .. }
-        | Expression::CooperativeMultiplyAdd { .. } => Ok(()),
-    }
+    let ranges = ReferenceRanges {
+        fun,
+        module,
+        fitting,
+    };
+    expressions.iter().all(|expression| ranges.has(expression))
 }
 
 /// The same of each expression of a function.
@@ -232,11 +265,18 @@ pub fn check_references(
     expressions: &[Expression],
     fun: &Function,
     module: &Module,
+    fitting: &[bool],
 ) -> Result<(), Misfit>
+    requires fitting { MarkFitting «module».now fitting.now }
     ensures { Finds (FirstOf (points_of_each (reference_points «module».now fun.now owner) expressions.now)) result }
 {
+    let ranges = ReferenceRanges {
+        fun,
+        module,
+        fitting,
+    };
     for (place, expression) in expressions.iter().enumerate() {
-        check_reference(owner, place, expression, fun, module)?;
+        ranges.check(owner, place, expression)?;
     }
     Ok(())
 }

@@ -3,6 +3,7 @@
 ghost use Rattle.std.specs.Prelude.{◌<◌, ◌↔◌, IsTrue, IfSome, All};
 ghost use Rattle.ir_facts.specs.FitsBody.{CalleeFits, LeafFits};
 ghost use Rattle.ir_misfits.specs.OfBodies.{call_points, leaf_points};
+ghost use Rattle.ir_misfits.specs.FittingSignatures.{MarkFitting};
 ghost use Rattle.ir_facts.specs.Answers.{Finds, FirstOf};
 
 use crate::misfit::{HandleOf, Misfit, Owner, Place, StatementField};
@@ -14,15 +15,17 @@ use ir_arena::tag;
 use ir_module::module::Module;
 use ir_statements::statements::Statement;
 
-/// In which module a body is, how many expressions there are, and how many functions calls may name.
+/// In which module a body is, of which of its functions the signature is known to fit, how many expressions there are, and
+/// how many functions calls may name.
 #[derive(Drop)]
-pub(crate) struct Asked<'a> {
+pub(crate) struct BodyRanges<'a> {
     pub module: &'a Module,
+    pub fitting: &'a [bool],
     pub expressions: usize,
     pub earlier: usize,
 }
 
-impl Asked<'_> {
+impl BodyRanges<'_> {
     /// Whether an expression is there.
     pub(crate) fn has(&self, handle: Handle<tag::Expression>) -> bool
         ensures { IsTrue result ↔ (handle < self.now.expressions) }
@@ -51,11 +54,12 @@ impl Asked<'_> {
         arguments: &[Handle<tag::Expression>],
         answer: Option<Handle<tag::Expression>>,
     ) -> bool
+        requires fitting { MarkFitting self.now.module.now self.now.fitting.now }
         ensures { IsTrue result ↔ (function < self.now.earlier) × CalleeFits self.now.module.now function
             × All (λ h. h < self.now.expressions) arguments.now × IfSome answer (λ h. h < self.now.expressions) }
     {
         function.index() < self.earlier
-            && callee_fits(function, self.module)
+            && callee_fits(function, self.module, self.fitting)
             && self.has_all(arguments)
             && self.has_if_any(answer)
     }
@@ -64,24 +68,25 @@ impl Asked<'_> {
 /// A Call names an earlier function, whose signature fits, and expressions that are there.
 #[tactic(auto, using(ir_arena::proofs::Points::first_of_both))]
 fn check_call(
-    asked: &Asked,
+    ranges: &BodyRanges,
     owner: Owner,
     number: usize,
     function: Handle<tag::Function>,
     arguments: &[Handle<tag::Expression>],
     answer: Option<Handle<tag::Expression>>,
 ) -> Result<(), Misfit>
-    ensures { Finds (FirstOf (call_points asked.now.module.now asked.now.expressions
-        asked.now.earlier owner number function arguments.now answer)) result }
+    requires fitting { MarkFitting ranges.now.module.now ranges.now.fitting.now }
+    ensures { Finds (FirstOf (call_points ranges.now.module.now ranges.now.expressions
+        ranges.now.earlier owner number function arguments.now answer)) result }
 {
     let place = Place::InStatement(owner, number, StatementField::Function);
     let statement = Numbered {
         owner,
         number,
-        expressions: asked.expressions,
+        expressions: ranges.expressions,
     };
-    place.names(HandleOf::Functions, function.index(), asked.earlier)?;
-    check_callee(place, function, asked.module)?;
+    place.names(HandleOf::Functions, function.index(), ranges.earlier)?;
+    check_callee(place, function, ranges.module, ranges.fitting)?;
     statement.check_call_arguments(arguments)?;
     statement.names_if_any(StatementField::Result, answer)
 }
@@ -89,18 +94,19 @@ fn check_call(
 /// A statement that is neither a jump nor holds others; nothing of any other.
 #[tactic(auto, using(ir_arena::proofs::Points::first_of_both))]
 pub(crate) fn check_leaf(
-    asked: &Asked,
+    ranges: &BodyRanges,
     owner: Owner,
     number: usize,
     statement: &Statement,
 ) -> Result<(), Misfit>
-    ensures { Finds (FirstOf (leaf_points asked.now.module.now asked.now.expressions
-        asked.now.earlier owner number statement.now)) result }
+    requires fitting { MarkFitting ranges.now.module.now ranges.now.fitting.now }
+    ensures { Finds (FirstOf (leaf_points ranges.now.module.now ranges.now.expressions
+        ranges.now.earlier owner number statement.now)) result }
 {
     let this = Numbered {
         owner,
         number,
-        expressions: asked.expressions,
+        expressions: ranges.expressions,
     };
     match statement {
         Statement::Emit(range) => this.check_range(*range),
@@ -133,7 +139,7 @@ pub(crate) fn check_leaf(
             arguments,
             result: answer,
         } => check_call(
-            asked,
+            ranges,
             owner,
             number,
             *function,
@@ -174,9 +180,10 @@ pub(crate) fn check_leaf(
 
 /// Whether what a statement that holds no other names is there.
 #[inline(never)]
-pub(crate) fn leaf_fits(asked: &Asked, statement: &Statement) -> bool
-    ensures { IsTrue result ↔ LeafFits asked.now.module.now asked.now.expressions asked.now.earlier statement.now }
+pub(crate) fn leaf_fits(ranges: &BodyRanges, statement: &Statement) -> bool
+    requires fitting { MarkFitting ranges.now.module.now ranges.now.fitting.now }
+    ensures { IsTrue result ↔ LeafFits ranges.now.module.now ranges.now.expressions ranges.now.earlier statement.now }
 {
     // (that doesn't depend on whose it is, nor on its number)
-    check_leaf(asked, Owner::Module, 0, statement).is_ok()
+    check_leaf(ranges, Owner::Module, 0, statement).is_ok()
 }

@@ -1,5 +1,5 @@
 //! What doesn't fit in a module: misfits with their places and texts, and recorded facts that are short.
-//! Of signatures, expressions and statements the misfits are found here. Nothing allocates. Users import these from `naga_module`.
+//! Of signatures, expressions and statements the misfits are found here. Users import these from `naga_module`.
 #![tactic(auto)]
 
 mod body;
@@ -8,11 +8,11 @@ mod leaf;
 pub mod misfit;
 pub mod naming;
 mod numbered;
-pub mod short;
-pub mod shortage;
+mod short;
+mod shortage;
 pub mod signature;
 pub mod statements;
-pub mod texts;
+mod texts;
 
 pub use crate::misfit::{
     EntryField, HandleOf, Misfit, Owner, Place, Problem, StatementField, TypeField, TypeOwner,

@@ -177,7 +177,8 @@ impl Numbered {
         array_index: Option<Handle<tag::Expression>>,
         value: Handle<tag::Expression>,
     ) -> Result<(), Misfit>
-        ensures { Finds (FirstOf (image_store_points self.expressions self.owner self.number image coordinate array_index value)) result }
+        ensures { Finds (FirstOf (image_store_points self.expressions self.owner self.number
+            image coordinate array_index value)) result }
     {
         self.names(StatementField::Image, image)?;
         self.names(StatementField::Coordinate, coordinate)?;
@@ -210,7 +211,8 @@ impl Numbered {
         fun: AtomicFunction,
         value: Handle<tag::Expression>,
     ) -> Result<(), Misfit>
-        ensures { Finds (FirstOf (image_operation_points self.expressions self.owner self.number image coordinate array_index fun value)) result }
+        ensures { Finds (FirstOf (image_operation_points self.expressions self.owner self.number
+            image coordinate array_index fun value)) result }
     {
         self.names(StatementField::Image, image)?;
         self.names(StatementField::Coordinate, coordinate)?;

@@ -1,9 +1,10 @@
 //! Whether the signature of a function fits, and what doesn't fit of it.
 
-ghost use Rattle.std.specs.Prelude.{◌<◌, ◌↔◌, IsTrue, IfSome, All};
+ghost use Rattle.std.specs.Prelude.{◌<◌, ◌↔◌, ◌≡◌, IsTrue, IfSome, All, false, slice_get, unwrap_or};
 ghost use Rattle.ir_arena.specs.Points.{points_of_each};
 ghost use Rattle.ir_facts.specs.FitsBody.{SignatureFits, CalleeFits};
 ghost use Rattle.ir_misfits.specs.OfSignatures.{argument_points, outcome_points, signature_points, callee_points};
+ghost use Rattle.ir_misfits.specs.FittingSignatures.{MarkFitting};
 ghost use Rattle.ir_facts.specs.Answers.{Finds, FirstOf};
 
 use crate::misfit::{HandleOf, Misfit, Owner, Place};
@@ -11,6 +12,7 @@ use ir_arena::handle::Handle;
 use ir_arena::tag;
 use ir_module::functions::{Function, FunctionArgument, FunctionResult};
 use ir_module::module::Module;
+use std::alloc::Global;
 
 /// Of so many types: whether that of each argument is there.
 fn arguments_fit(arguments: &[FunctionArgument], types: usize) -> bool
@@ -69,14 +71,45 @@ pub fn check_signature(owner: Owner, fun: &Function, module: &Module) -> Result<
     check_outcome(owner, fun.result, module.types.len())
 }
 
+/// A mark for each function of the module, by its handle: whether its signature fits. Where there is no memory for all,
+/// the last ones have none.
+///
+/// A function that many Calls and results of calls name is then looked at once.
+pub fn fitting_signatures(alloc: Global, module: &Module) -> Vec<bool>
+    ensures { MarkFitting «module».now result.items }
+{
+    let mut marks = Vec::new(alloc);
+    for fun in module.functions.as_slice() {
+        if marks.push(signature_fits(fun, module)).is_err() {
+            return marks;
+        }
+    }
+    marks
+}
+
+/// Whether the signature of a function is among those that are known to fit.
+fn is_marked(fitting: &[bool], function: Handle<tag::Function>) -> bool
+    ensures { result ≡ unwrap_or (slice_get fitting.now function) false }
+{
+    match fitting.get(function.index()) {
+        Some(mark) => *mark,
+        None => false,
+    }
+}
+
 /// A function that is named at this place is there, and its signature fits. What doesn't fit of this has its own place.
 pub(crate) fn check_callee(
     place: Place,
     function: Handle<tag::Function>,
     module: &Module,
+    fitting: &[bool],
 ) -> Result<(), Misfit>
+    requires fitting { MarkFitting «module».now fitting.now }
     ensures { Finds (FirstOf (callee_points «module».now place function)) result }
 {
+    if is_marked(fitting, function) {
+        return Ok(());
+    }
     place.names(
         HandleOf::Functions,
         function.index(),
@@ -87,8 +120,15 @@ pub(crate) fn check_callee(
 }
 
 /// Whether a function is there, with a signature that fits.
-pub(crate) fn callee_fits(function: Handle<tag::Function>, module: &Module) -> bool
+pub(crate) fn callee_fits(
+    function: Handle<tag::Function>,
+    module: &Module,
+    fitting: &[bool],
+) -> bool
+    requires fitting { MarkFitting «module».now fitting.now }
     ensures { IsTrue result ↔ CalleeFits «module».now function }
 {
-    function.index() < module.functions.len() && signature_fits(&module.functions[function], module)
+    is_marked(fitting, function)
+        || function.index() < module.functions.len()
+            && signature_fits(&module.functions[function], module)
 }

@@ -1,5 +1,5 @@
 -- The expressions that an expression is made from.
-use Rattle.std.specs.Prelude.{ℕ, List, [], ◌∷◌}
+use Rattle.std.specs.Prelude.{ℕ, List, [], ◌∷◌, Option, None, Some}
 use Rattle.ir_module.specs.declared.expressions.Expression.{Expression}
 use Rattle.ir_module.specs.declared.expressions.Expression.TheVariants as e
 
@@ -46,3 +46,9 @@ listed_operands (e.Access b i) = []
 listed_operands (e.AccessIndex b i) = []
 listed_operands (e.Load p) = []
 listed_operands x = operands_of x
+
+-- the expression of which an access takes a part
+abbrev pub access_base : Expression → Option ℕ
+access_base (e.Access base index) = Some base
+access_base (e.AccessIndex base index) = Some base
+access_base _ = None

@@ -6,7 +6,7 @@ pub mod expressions;
 pub mod functions;
 pub mod module;
 pub mod operands;
-pub mod pre_emitted;
+mod pre_emitted;
 
 pub use crate::expressions::{Expression, Literal};
 pub use crate::functions::{Function, FunctionArgument, FunctionResult, LocalVariable};

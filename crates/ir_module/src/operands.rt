@@ -1,11 +1,24 @@
 //! The operands of an expression: the expressions that it is made from, in order.
 
 ghost use Rattle.std.specs.Prelude.{◌≡◌, [], ◌∷◌, length, slice_get};
-ghost use Rattle.ir_module.specs.Operands.{operands_of, listed_operands};
+ghost use Rattle.ir_module.specs.Operands.{operands_of, listed_operands, access_base};
 
 use crate::expressions::Expression;
 use ir_arena::handle::Handle;
 use ir_arena::tag;
+
+impl Expression {
+    /// The expression of which an access takes a part.
+    #[inline]
+    pub fn access_base(&self) -> Option<Handle<tag::Expression>>
+        ensures { result ≡ access_base self.now }
+    {
+        match self {
+            Expression::Access { base, .. } | Expression::AccessIndex { base, .. } => Some(*base),
+            _ => None,
+        }
+    }
+}
 
 /// The number of operands of an expression.
 ///

@@ -4,7 +4,7 @@
 
 pub mod operations;
 pub mod statements;
-pub mod subgroups;
+mod subgroups;
 
 pub use crate::operations::{
     AtomicFunction, CollectiveOperation, CooperativeData, GatherMode, RayPipelineFunction,

@@ -1,4 +1,5 @@
 pub mod Types
+pub mod SpaceTests
 pub mod Members
 pub mod Unique
 pub mod EqualTypes

@@ -22,6 +22,11 @@ abbrev pub it_is : (TypeInner → Bool) → Option TypeInner → Bool
 it_is test None = false
 it_is test (Some i) = test i
 
+-- a struct
+abbrev pub is_struct : TypeInner → Bool
+is_struct (inner.Struct members span) = true
+is_struct _ = false
+
 -- the same type inside
 abbrev pub is_same_inner : TypeInner → TypeInner → Bool
 is_same_inner a b = (type_inner.ghosts).eq a b

@@ -1,14 +1,18 @@
 //! Questions about types. None allocates.
 
 ghost use Rattle.std.specs.Prelude.{◌≡◌, ◌<◌, length, unwrap_or};
-ghost use Rattle.ir_types.specs.Types.{scalar_of, scalar_kind_of, pointer_space_of, pointer_base_of, image_coordinates_of, access_of, NamesTypesBelow, NameEachOther, ResolutionFits, value_pointer_of};
-ghost use Rattle.ir_types.specs.TypeTests.{is_equivalent, is_exchange_struct, is_scalar_member, is_same_type, SameIsDecided, EquivalentIsDecided, ExchangeStructIsDecided, ScalarIsDecided, ScalarMemberIsDecided};
+ghost use Rattle.std.specs.Option.{option_copied};
+ghost use Rattle.ir_types.specs.Types.{scalar_of, scalar_kind_of, pointer_space_of, pointer_base_of, image_coordinates_of, access_of, NamesTypesBelow, NameEachOther, ResolutionFits, inner_at, value_pointer_of};
+ghost use Rattle.ir_types.specs.SpaceTests.{is_work_group, is_immediate, is_task_payload, is_storage};
+ghost use Rattle.ir_types.specs.TypeTests.{it_is, is_struct, is_equivalent, is_exchange_struct, is_scalar_member, is_same_type, SameIsDecided, EquivalentIsDecided, ExchangeStructIsDecided, ScalarIsDecided, ScalarMemberIsDecided};
 ghost use Rattle.ir_leaves.specs.Formats.{format_kind, format_scalar};
 
 use crate::types::{AddressSpace, StructMember, Type, TypeInner};
 use crate::typifier::TypeResolution;
 use crate::unique_arena::UniqueArena;
 use bitflags::Flags;
+use ir_arena::handle::Handle;
+use ir_arena::tag;
 use ir_flags::ir::StorageAccess;
 use ir_leaves::images::{ImageDimension, StorageFormat};
 use ir_leaves::scalars::{Scalar, ScalarKind, VectorSize};
@@ -181,6 +185,23 @@ impl TypeInner {
     }
 }
 
+/// The type with a handle, where it is there.
+pub fn inner_at(types: &[Type], ty: Handle<tag::Type>) -> Option<&TypeInner>
+    ensures { option_copied result ≡ inner_at types.now ty }
+{
+    match types.get(ty.index()) {
+        Some(ty) => Some(&ty.inner),
+        None => None,
+    }
+}
+
+/// Whether a type is there, and a struct.
+pub fn is_struct(inner: Option<&TypeInner>) -> bool
+    ensures { result ≡ it_is is_struct (option_copied inner.entry) }
+{
+    matches!(inner, Some(TypeInner::Struct { .. }))
+}
+
 /// Whether a member has this name and this scalar as its type.
 fn is_scalar_member(
     member: &StructMember,
@@ -251,6 +272,78 @@ impl AddressSpace {
                 StorageAccess::LOAD
             }
             AddressSpace::Storage { access } => access,
+        }
+    }
+
+    /// Whether it is the space of work groups.
+    pub fn is_work_group(self) -> bool
+        ensures { result ≡ is_work_group self }
+    {
+        match self {
+            AddressSpace::WorkGroup => true,
+            AddressSpace::Function
+            | AddressSpace::Private
+            | AddressSpace::Uniform
+            | AddressSpace::Storage { .. }
+            | AddressSpace::Handle
+            | AddressSpace::Immediate
+            | AddressSpace::TaskPayload
+            | AddressSpace::RayPayload
+            | AddressSpace::IncomingRayPayload => false,
+        }
+    }
+
+    /// Whether it is the space of immediates.
+    pub fn is_immediate(self) -> bool
+        ensures { result ≡ is_immediate self }
+    {
+        match self {
+            AddressSpace::Immediate => true,
+            AddressSpace::Function
+            | AddressSpace::Private
+            | AddressSpace::WorkGroup
+            | AddressSpace::Uniform
+            | AddressSpace::Storage { .. }
+            | AddressSpace::Handle
+            | AddressSpace::TaskPayload
+            | AddressSpace::RayPayload
+            | AddressSpace::IncomingRayPayload => false,
+        }
+    }
+
+    /// Whether it is the space of task payloads.
+    pub fn is_task_payload(self) -> bool
+        ensures { result ≡ is_task_payload self }
+    {
+        match self {
+            AddressSpace::TaskPayload => true,
+            AddressSpace::Function
+            | AddressSpace::Private
+            | AddressSpace::WorkGroup
+            | AddressSpace::Uniform
+            | AddressSpace::Storage { .. }
+            | AddressSpace::Handle
+            | AddressSpace::Immediate
+            | AddressSpace::RayPayload
+            | AddressSpace::IncomingRayPayload => false,
+        }
+    }
+
+    /// Whether it is the space of storage, whatever may be done there.
+    pub fn is_storage(self) -> bool
+        ensures { result ≡ is_storage self }
+    {
+        match self {
+            AddressSpace::Storage { .. } => true,
+            AddressSpace::Function
+            | AddressSpace::Private
+            | AddressSpace::WorkGroup
+            | AddressSpace::Uniform
+            | AddressSpace::Handle
+            | AddressSpace::Immediate
+            | AddressSpace::TaskPayload
+            | AddressSpace::RayPayload
+            | AddressSpace::IncomingRayPayload => false,
         }
     }
 }

@@ -106,12 +106,12 @@ fn write_infos(out: &mut JsonWriter, id: &Option<Id>, infos: &ModuleInfo) -> Res
 
 /// A part of a module: its kind, and its index.
 #[derive(Clone, Copy)]
-struct Part {
+struct ModulePart {
     kind: &'static str,
     index: usize,
 }
 
-impl ToJson for Part {
+impl ToJson for ModulePart {
     ghost form = { λ part. part_form part.kind.now part.index };
 
     #[tactic(auto, unfolding(crate::specs::VerdictJson::part_form))]
@@ -193,7 +193,7 @@ fn write_refused(
             write_fault(
                 out,
                 id,
-                &Part {
+                &ModulePart {
                     kind: "Global",
                     index: global.index(),
                 },
@@ -205,7 +205,7 @@ fn write_refused(
         ModuleFault::Function(function, error) => write_fault(
             out,
             id,
-            &Part {
+            &ModulePart {
                 kind: "Function",
                 index: function.index(),
             },
@@ -216,7 +216,7 @@ fn write_refused(
         ModuleFault::EntryPoint(index, error) => write_fault(
             out,
             id,
-            &Part {
+            &ModulePart {
                 kind: "EntryPoint",
                 index: *index,
             },

@@ -2,14 +2,14 @@
 //! Part of `naga_judge`; no promise to users.
 #![tactic(auto)]
 
-pub mod document;
-pub mod entry_points;
-pub mod errors;
-pub mod facts;
-pub mod functions;
-pub mod id;
-pub mod module;
-pub mod text;
+mod document;
+mod entry_points;
+mod errors;
+mod facts;
+mod functions;
+mod id;
+mod module;
+mod text;
 mod types;
 
 pub use crate::document::{Document, Known};

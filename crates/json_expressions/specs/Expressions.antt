@@ -4,8 +4,8 @@ use Rattle.serde_json.specs.Data.{Data}
 use Rattle.serde_json.specs.Find.{as_bool}
 use Rattle.ir_module.specs.declared.expressions.Literal.{Literal}
 use Rattle.json_expressions.specs.declared.expressions.Parts.{Parts}
-use Rattle.json_expressions.specs.declared.expressions.BareName.{BareName}
-use Rattle.json_expressions.specs.declared.expressions.BareName.TheVariants as bare
+use Rattle.json_expressions.specs.declared.expressions.BareExpressionName.{BareExpressionName}
+use Rattle.json_expressions.specs.declared.expressions.BareExpressionName.TheVariants as bare
 use Rattle.json_expressions.specs.declared.expressions.PartsName.{PartsName}
 use Rattle.json_expressions.specs.declared.expressions.PartsName.TheVariants as parts_name
 use Rattle.json_expressions.specs.declared.expressions.IndexName.{IndexName}
@@ -70,7 +70,7 @@ with_index index_name.LocalVariable index = expression.LocalVariable index
 with_index index_name.CallResult index = expression.CallResult index
 
 -- the expressions that hold nothing
-abbrev pub bare_expressions : List (List ℕ × BareName)
+abbrev pub bare_expressions : List (List ℕ × BareExpressionName)
 bare_expressions = (codes "RayQueryProceedResult", bare.RayQueryProceedResult)
     ∷ (codes "SubgroupBallotResult", bare.SubgroupBallotResult) ∷ []
 
@@ -127,7 +127,7 @@ abbrev pub subgroup_operation_result_of : Data → Option Expression
 subgroup_operation_result_of d = option_map expression.SubgroupOperationResult (one_field (codes "ty") u32_of d)
 
 -- what a variant stands for
-abbrev pub expression_from : Variant BareName ExpressionName → Option Expression
+abbrev pub expression_from : Variant BareExpressionName ExpressionName → Option Expression
 expression_from (plain bare.RayQueryProceedResult) = Some expression.RayQueryProceedResult
 expression_from (plain bare.SubgroupBallotResult) = Some expression.SubgroupBallotResult
 expression_from (holding (expression_name.Parts kind) d) = option_map (with_parts kind) (any_parts_of kind d)

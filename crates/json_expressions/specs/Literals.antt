@@ -23,7 +23,8 @@ double_bits x = if float_is_finite x then Some (to_bits binary64 x) else None
 
 -- those of the float of 32 bits that is nearest to that one, if there is a finite one
 abbrev pub single_bits : Float → Option ℕ
-single_bits x = if float_is_finite (round_to_format binary32 x) then Some (to_bits binary32 (round_to_format binary32 x)) else None
+single_bits x =
+    if float_is_finite (round_to_format binary32 x) then Some (to_bits binary32 (round_to_format binary32 x)) else None
 
 -- the bits of a value; those of an integer with a sign are its complement of two
 abbrev pub bits_of : LiteralName → Data → Option ℕ

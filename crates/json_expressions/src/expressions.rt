@@ -154,15 +154,21 @@ fn with_index(kind: IndexName, index: u32) -> Expression
 
 /// The expressions that hold nothing.
 #[derive(Clone, Copy)]
-enum BareName {
+enum BareExpressionName {
     RayQueryProceedResult,
     SubgroupBallotResult,
 }
 
 /// Their names.
-const BARE_EXPRESSIONS: [(&str, BareName); 2] = [
-    ("RayQueryProceedResult", BareName::RayQueryProceedResult),
-    ("SubgroupBallotResult", BareName::SubgroupBallotResult),
+const BARE_EXPRESSIONS: [(&str, BareExpressionName); 2] = [
+    (
+        "RayQueryProceedResult",
+        BareExpressionName::RayQueryProceedResult,
+    ),
+    (
+        "SubgroupBallotResult",
+        BareExpressionName::SubgroupBallotResult,
+    ),
 ];
 
 /// The expressions that hold something.
@@ -337,10 +343,12 @@ pub fn read_expression(alloc: Global, value: &Node) -> Result<Expression, ReadEr
     ensures { ReadsMeaning (expression_of (data_of value.now)) result }
 {
     match read_variant(alloc, value, &BARE_EXPRESSIONS, &EXPRESSIONS) {
-        Ok(Variant::Plain(BareName::RayQueryProceedResult)) => Ok(
+        Ok(Variant::Plain(BareExpressionName::RayQueryProceedResult)) => Ok(
             Expression::RayQueryProceedResult,
         ),
-        Ok(Variant::Plain(BareName::SubgroupBallotResult)) => Ok(Expression::SubgroupBallotResult),
+        Ok(Variant::Plain(BareExpressionName::SubgroupBallotResult)) => Ok(
+            Expression::SubgroupBallotResult,
+        ),
         Ok(Variant::Holding(found, name, inner)) => {
             let held = Held {
                 alloc,

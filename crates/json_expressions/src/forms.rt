@@ -23,7 +23,7 @@ use std::alloc::{AllocError, Global};
 
 /// The names that a field chooses from.
 #[derive(Clone, Copy)]
-pub enum NameTable {
+pub(crate) enum NameTable {
     VectorSize,
     SwizzleSize,
     UnaryOperator,
@@ -40,7 +40,7 @@ pub enum NameTable {
 
 /// What stands in a field of a named form. Numbers are what it counts in `detail`.
 #[derive(Clone, Copy)]
-pub enum Field {
+pub(crate) enum Field {
     /// An operand.
     Operand,
     /// An operand, which counts so much; or null.
@@ -132,7 +132,8 @@ fn read_maybe(held: Held, count: u32) -> Result<Piece, ReadError>
 
 /// True or false.
 fn read_flag(held: Held, count: u32) -> Result<Piece, ReadError>
-    ensures { ReadsMeaning (option_map (λ truth. counted (count_if count truth)) (as_bool (data_of held.entry.value.now))) result }
+    ensures { ReadsMeaning (option_map (λ truth. counted (count_if count truth))
+        (as_bool (data_of held.entry.value.now))) result }
 {
     match held.read(Expressions) {
         Ok(truth) => Ok(counted(count_if(count, truth))),
@@ -218,7 +219,8 @@ fn read_two_components(alloc: Global, first: &Node, second: &Node) -> Result<u16
 
 /// Four components, each of which counts four times as much as the one before it.
 fn read_four_components(alloc: Global, four: &(Node, Node, Node, Node)) -> Result<u32, ReadError>
-    ensures { ReadsMeaning (four_components (data_of four.now.0, data_of four.now.1, data_of four.now.2, data_of four.now.3)) result }
+    ensures { ReadsMeaning
+        (four_components (data_of four.now.0, data_of four.now.1, data_of four.now.2, data_of four.now.3)) result }
 {
     match read_two_components(alloc, &four.0, &four.1) {
         Ok(low) => match read_two_components(alloc, &four.2, &four.3) {

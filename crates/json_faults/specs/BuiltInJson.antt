@@ -58,6 +58,8 @@ built_in_name built_ins.Vertices = codes "Vertices"
 built_in_name built_ins.Primitives = codes "Primitives"
 
 unfoldable pub built_in_form : BuiltIn → Json
-built_in_form (built_ins.Position invariant) = holding (built_in_name (built_ins.Position invariant)) (one_field (codes "invariant") (boolean invariant))
-built_in_form (built_ins.Barycentric perspective) = holding (built_in_name (built_ins.Barycentric perspective)) (one_field (codes "perspective") (boolean perspective))
+built_in_form (built_ins.Position invariant) =
+    holding (built_in_name (built_ins.Position invariant)) (one_field (codes "invariant") (boolean invariant))
+built_in_form (built_ins.Barycentric perspective) =
+    holding (built_in_name (built_ins.Barycentric perspective)) (one_field (codes "perspective") (boolean perspective))
 built_in_form built_in = string (built_in_name built_in)

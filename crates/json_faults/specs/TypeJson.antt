@@ -41,7 +41,15 @@ space_name spaces.IncomingRayPayload = codes "IncomingRayPayload"
 
 unfoldable pub space_form : AddressSpace → Json
 space_form (spaces.Storage access) = holding (codes "Storage") (one_field (codes "access") (storage_access_form access))
-space_form space = string (space_name space)
+space_form spaces.Function = string (space_name spaces.Function)
+space_form spaces.Private = string (space_name spaces.Private)
+space_form spaces.WorkGroup = string (space_name spaces.WorkGroup)
+space_form spaces.Uniform = string (space_name spaces.Uniform)
+space_form spaces.Handle = string (space_name spaces.Handle)
+space_form spaces.Immediate = string (space_name spaces.Immediate)
+space_form spaces.TaskPayload = string (space_name spaces.TaskPayload)
+space_form spaces.RayPayload = string (space_name spaces.RayPayload)
+space_form spaces.IncomingRayPayload = string (space_name spaces.IncomingRayPayload)
 
 -- the class of an image
 unfoldable pub image_class_name : ImageClass → List ℕ

@@ -121,7 +121,8 @@ pub(crate) fn three_fields<A: ToJson, B: ToJson, C: ToJson>(
     b: &B,
     c: &C,
 ) -> Result<(), AllocError>
-    ensures { Writes result out.old out.new (three_fields names.now.0.now (A.form a.now) names.now.1.now (B.form b.now) names.now.2.now (C.form c.now)) }
+    ensures { Writes result out.old out.new (three_fields names.now.0.now (A.form a.now)
+        names.now.1.now (B.form b.now) names.now.2.now (C.form c.now)) }
 {
     out.begin_object()?;
     field(out, names.0, a)?;
@@ -140,7 +141,8 @@ pub fn four_fields<A: ToJson, B: ToJson, C: ToJson, D: ToJson>(
     c: &C,
     d: &D,
 ) -> Result<(), AllocError>
-    ensures { Writes result out.old out.new (four_fields names.now.0.now (A.form a.now) names.now.1.now (B.form b.now) names.now.2.now (C.form c.now) names.now.3.now (D.form d.now)) }
+    ensures { Writes result out.old out.new (four_fields names.now.0.now (A.form a.now) names.now.1.now (B.form b.now)
+        names.now.2.now (C.form c.now) names.now.3.now (D.form d.now)) }
 {
     out.begin_object()?;
     field(out, names.0, a)?;
@@ -161,7 +163,8 @@ fn five_fields<A: ToJson, B: ToJson, C: ToJson, D: ToJson, E: ToJson>(
     d: &D,
     e: &E,
 ) -> Result<(), AllocError>
-    ensures { Writes result out.old out.new (five_fields names.now.0.now (A.form a.now) names.now.1.now (B.form b.now) names.now.2.now (C.form c.now) names.now.3.now (D.form d.now) names.now.4.now (E.form e.now)) }
+    ensures { Writes result out.old out.new (five_fields names.now.0.now (A.form a.now) names.now.1.now (B.form b.now)
+        names.now.2.now (C.form c.now) names.now.3.now (D.form d.now) names.now.4.now (E.form e.now)) }
 {
     out.begin_object()?;
     field(out, names.0, a)?;
@@ -194,7 +197,8 @@ pub(crate) fn holding_two<A: ToJson, B: ToJson>(
     a: &A,
     b: &B,
 ) -> Result<(), AllocError>
-    ensures { Writes result out.old out.new (holding names.now.0.now (two_fields names.now.1.now (A.form a.now) names.now.2.now (B.form b.now))) }
+    ensures { Writes result out.old out.new (holding names.now.0.now
+        (two_fields names.now.1.now (A.form a.now) names.now.2.now (B.form b.now))) }
 {
     out.open(names.0)?;
     two_fields(out, &(names.1, names.2), a, b)?;
@@ -210,7 +214,8 @@ pub(crate) fn holding_three<A: ToJson, B: ToJson, C: ToJson>(
     b: &B,
     c: &C,
 ) -> Result<(), AllocError>
-    ensures { Writes result out.old out.new (holding names.now.0.now (three_fields names.now.1.now (A.form a.now) names.now.2.now (B.form b.now) names.now.3.now (C.form c.now))) }
+    ensures { Writes result out.old out.new (holding names.now.0.now
+        (three_fields names.now.1.now (A.form a.now) names.now.2.now (B.form b.now) names.now.3.now (C.form c.now))) }
 {
     out.open(names.0)?;
     three_fields(out, &(names.1, names.2, names.3), a, b, c)?;
@@ -228,7 +233,9 @@ pub(crate) fn holding_five<A: ToJson, B: ToJson, C: ToJson, D: ToJson, E: ToJson
     d: &D,
     e: &E,
 ) -> Result<(), AllocError>
-    ensures { Writes result out.old out.new (holding names.now.0.now (five_fields names.now.1.now (A.form a.now) names.now.2.now (B.form b.now) names.now.3.now (C.form c.now) names.now.4.now (D.form d.now) names.now.5.now (E.form e.now))) }
+    ensures { Writes result out.old out.new (holding names.now.0.now
+        (five_fields names.now.1.now (A.form a.now) names.now.2.now (B.form b.now) names.now.3.now (C.form c.now)
+        names.now.4.now (D.form d.now) names.now.5.now (E.form e.now))) }
 {
     out.open(names.0)?;
     five_fields(

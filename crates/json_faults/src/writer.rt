@@ -47,12 +47,13 @@ impl JsonWriter {
     {
         match String::from_utf8(self.writer.into_inner()) {
             Ok(text) => text,
+            // Proved: the tokens of JSON are written as UTF-8.
             Err(_) => unreachable!(),
         }
     }
 
     /// Begins an object, whose fields follow: for each a name, then a value.
-    pub fn begin_object(&mut self) -> Result<(), AllocError>
+    pub(crate) fn begin_object(&mut self) -> Result<(), AllocError>
         ensures { OnOk result (self.new ≡ self.old ++ tokens.begin_object ∷ []) }
     {
         self.writer.begin_object()
@@ -116,7 +117,7 @@ impl JsonWriter {
     }
 
     /// Writes true or false.
-    pub fn boolean(&mut self, truth: bool) -> Result<(), AllocError>
+    pub(crate) fn boolean(&mut self, truth: bool) -> Result<(), AllocError>
         ensures { Writes result self.old self.new (boolean truth) }
     {
         self.writer.boolean(truth)

@@ -3,7 +3,7 @@
 use crate::words::{write_number, write_part, write_spaces, write_statement};
 use json_nodes::Step;
 use json_places::statements::way_to;
-use json_places::{Inside, JsonPointer, ListedStatement, Part, Position};
+use json_places::{Inside, JsonPointer, ListedPosition, ListedStatement, StatementPart};
 use std::alloc::{AllocError, Global};
 use std::fmt;
 
@@ -15,19 +15,19 @@ const AROUND: usize = 10;
 
 /// Which statements of a body are written.
 #[derive(Drop)]
-pub(crate) struct Shown {
+pub(crate) struct ShownStatements {
     is_shown: Vec<bool>,
 }
 
-impl Shown {
+impl ShownStatements {
     /// All statements of a short body. Of a long one those around the position, what holds it, and the statements with these
     /// numbers, with what holds them. An Err is out of memory.
     pub(crate) fn new(
         alloc: Global,
         listed: &[ListedStatement<'_>],
-        position: Option<Position>,
+        position: Option<ListedPosition>,
         named: &[usize],
-    ) -> Result<Shown, AllocError> {
+    ) -> Result<ShownStatements, AllocError> {
         let is_short = listed.len() <= SHORT;
         let mut is_shown = Vec::with_capacity(alloc, listed.len())?;
         for number in 0..listed.len() {
@@ -37,12 +37,12 @@ impl Shown {
             };
             is_shown.push(is_short || is_near)?;
         }
-        let mut shown = Shown { is_shown };
+        let mut shown = ShownStatements { is_shown };
         if let Some(position) = position {
             shown.add_way(alloc, listed, position)?;
         }
         for number in named {
-            shown.add_way(alloc, listed, Position::Statement(*number))?;
+            shown.add_way(alloc, listed, ListedPosition::Statement(*number))?;
         }
         Ok(shown)
     }
@@ -59,7 +59,7 @@ impl Shown {
         &mut self,
         alloc: Global,
         listed: &[ListedStatement<'_>],
-        position: Position,
+        position: ListedPosition,
     ) -> Result<(), AllocError> {
         self.add(position.number());
         let way = way_to(alloc, listed, position)?;
@@ -102,8 +102,8 @@ fn digits(number: usize) -> usize {
 pub(crate) fn write_body<W: fmt::Write>(
     out: &mut W,
     listed: &[ListedStatement<'_>],
-    shown: &Shown,
-    position: Option<Position>,
+    shown: &ShownStatements,
+    position: Option<ListedPosition>,
     place: &JsonPointer,
 ) -> fmt::Result {
     if listed.is_empty() {
@@ -134,14 +134,14 @@ pub(crate) fn write_body<W: fmt::Write>(
 /// Writes the head of a body: which number the place of the verdict has.
 fn write_head<W: fmt::Write>(
     out: &mut W,
-    position: Option<Position>,
+    position: Option<ListedPosition>,
     place: &JsonPointer,
 ) -> fmt::Result {
     out.write_str("\nbody")?;
     match position {
         None => return out.write_str(":"),
-        Some(Position::Statement(number)) => write_number(out, ", where #", number, "")?,
-        Some(Position::BreakIf(number)) => {
+        Some(ListedPosition::Statement(number)) => write_number(out, ", where #", number, "")?,
+        Some(ListedPosition::BreakIf(number)) => {
             write_number(out, ", where the break condition of #", number, "")?
         }
     }
@@ -177,7 +177,7 @@ fn write_label<W: fmt::Write>(
     let Some(holder) = listed.get(inside.number) else {
         return Ok(());
     };
-    if inside.part == Part::Block {
+    if inside.part == StatementPart::Block {
         return Ok(());
     }
     out.write_str("\n  ")?;
@@ -192,7 +192,7 @@ fn write_node<W: fmt::Write>(
     node: &ListedStatement<'_>,
     number: usize,
     width: usize,
-    position: Option<Position>,
+    position: Option<ListedPosition>,
 ) -> fmt::Result {
     let is_at = match position {
         Some(position) => position.number() == number,

@@ -1,13 +1,13 @@
 //! The listing of what was refused: its declarations, the expressions that the fault is about, its body, and why.
 
-use crate::body::{Shown, write_body};
+use crate::body::{ShownStatements, write_body};
 use crate::declarations::{write_declarations, write_entry, write_expressions, write_global};
 use crate::kept::{EmittedValue, Kept};
 use crate::marks::{Marks, user_in};
 use crate::why::{Earlier, RefusedUse, earlier_of, write_cases, write_earlier, write_twin};
 use crate::words::{write_number, write_two};
 use check_faults::{EntryPointError, ModuleFault};
-use json_places::{Found, ListedStatement, Position, Reason, Spot, statements_of, unseen};
+use json_places::{Found, ListedPosition, ListedStatement, Reason, Spot, statements_of, unseen};
 use naga_below::{Function, Handle, Module, Statement, tag};
 use naga_rules::FunctionError;
 use std::alloc::{AllocError, Global};
@@ -34,6 +34,7 @@ pub fn write_listing<W: fmt::Write>(
         ModuleFault::EntryPoint(index, error) => {
             listing.write_entry_point(alloc, out, *index, error.as_inner())
         }
+        // Nothing to list: of out of memory nothing is found, and a misfit's place is all that is found of `NotFit`.
         ModuleFault::NotFit | ModuleFault::Memory => Ok(()),
     }
 }
@@ -94,7 +95,7 @@ impl Listing<'_> {
     ) -> fmt::Result {
         write_declarations(out, self.module, function, self.found.spot)?;
         let listed = statements_of(alloc, &function.body)?;
-        let refused = Refused {
+        let refused = RefusedFunction {
             function,
             listed: listed.as_slice(),
             fault,
@@ -115,7 +116,7 @@ fn head_mark(spot: Spot) -> &'static str {
 }
 
 /// The position in the body that has the fault, if one has.
-fn position_of(spot: Spot) -> Option<Position> {
+fn position_of(spot: Spot) -> Option<ListedPosition> {
     match spot {
         Spot::At(position) => Some(position),
         _ => None,
@@ -125,14 +126,14 @@ fn position_of(spot: Spot) -> Option<Position> {
 /// A function of which something is refused: the statements of its body by their numbers, the fault, if it is the function's
 /// own, and where it was found.
 #[derive(Clone, Copy)]
-struct Refused<'a> {
+struct RefusedFunction<'a> {
     function: &'a Function,
     listed: &'a [ListedStatement<'a>],
     fault: Option<&'a FunctionError>,
     found: &'a Found,
 }
 
-impl<'a> Refused<'a> {
+impl<'a> RefusedFunction<'a> {
     /// Writes the expressions and the statements, and why one of these is refused.
     fn write<W: fmt::Write>(self, alloc: Global, out: &mut W) -> fmt::Result {
         let earlier = self.earlier(alloc)?;
@@ -205,7 +206,7 @@ impl<'a> Refused<'a> {
     ) -> fmt::Result {
         let position = position_of(self.found.spot);
         let named = named_by(alloc, self.found.reason, earlier, kept)?;
-        let shown = Shown::new(alloc, self.listed, position, named.as_slice())?;
+        let shown = ShownStatements::new(alloc, self.listed, position, named.as_slice())?;
         let marks = self.marks(alloc)?;
         let all = self.marks_of_shown(alloc, &marks, &shown)?;
         write_expressions(out, self.function, &marks, &all, self.found.spot)?;
@@ -247,7 +248,7 @@ impl<'a> Refused<'a> {
         self,
         alloc: Global,
         marks: &Marks,
-        shown: &Shown,
+        shown: &ShownStatements,
     ) -> Result<Marks, AllocError> {
         let mut all = marks.copy(alloc)?;
         for (number, node) in self.listed.iter().enumerate() {
@@ -280,7 +281,7 @@ impl<'a> Refused<'a> {
         self,
         out: &mut W,
         fault: &FunctionError,
-        position: Position,
+        position: ListedPosition,
         kept: &Option<Kept>,
     ) -> fmt::Result {
         if let (Some(reason), Some(handle)) = (self.found.reason, self.unseen()) {

@@ -3,10 +3,10 @@
 use crate::kept::{Kept, Stored};
 use crate::words::{write_name, write_number, write_two};
 use check_faults::EntryPointError;
-use json_places::parts::{Bound, Group, bounds_of, first_of};
+use json_places::parts::{BoundSpot, Group, bounds_of, first_of};
 use json_places::scope::first_emission;
 use json_places::statements::result_of;
-use json_places::{Inside, ListedStatement, Part, Position, Reason, Spot};
+use json_places::{Inside, ListedPosition, ListedStatement, Reason, Spot, StatementPart};
 use naga_below::{EntryPoint, Function, Handle, Module, Statement, SwitchCase, SwitchValue, tag};
 use naga_rules::{AtomicError, CallError, FunctionError, VaryingError};
 use std::alloc::{AllocError, Global};
@@ -33,7 +33,7 @@ pub(crate) fn earlier_of(
     function: &Function,
     listed: &[ListedStatement<'_>],
     fault: &FunctionError,
-    position: Position,
+    position: ListedPosition,
 ) -> Result<Earlier, AllocError> {
     match fault {
         FunctionError::ExpressionAlreadyInScope(handle)
@@ -82,17 +82,22 @@ fn first_result(
 }
 
 /// Writes a position.
-fn write_position<W: fmt::Write>(out: &mut W, position: Position) -> fmt::Result {
+fn write_position<W: fmt::Write>(out: &mut W, position: ListedPosition) -> fmt::Result {
     match position {
-        Position::Statement(number) => write_number(out, "#", number, ""),
-        Position::BreakIf(number) => write_number(out, "the break condition of #", number, ""),
+        ListedPosition::Statement(number) => write_number(out, "#", number, ""),
+        ListedPosition::BreakIf(number) => write_number(
+            out,
+            "the break condition of #",
+            number,
+            "",
+        ),
     }
 }
 
 /// A use that is refused since its expression isn't in scope there.
 #[derive(Clone, Copy)]
 pub(crate) struct RefusedUse {
-    pub position: Position,
+    pub position: ListedPosition,
     pub handle: Handle<tag::Expression>,
 }
 
@@ -106,7 +111,7 @@ impl RefusedUse {
                 self.write_cure(out, "\nCure")
             }
             Reason::Ended { emitted, list, .. } => self.write_ended(out, emitted, list),
-            Reason::Later { emitted } if self.position == Position::Statement(emitted) => {
+            Reason::Later { emitted } if self.position == ListedPosition::Statement(emitted) => {
                 let after = "], after it has used it.";
                 write_two(out, "\nWhy: #", emitted, " itself emits [", index, after)?;
                 self.write_cure(out, "\nCure")
@@ -219,13 +224,25 @@ fn write_keeping<W: fmt::Write>(
 fn write_list_name<W: fmt::Write>(out: &mut W, list: Inside) -> fmt::Result {
     let number = list.number;
     match list.part {
-        Part::Block => write_number(out, "the Block #", number, ""),
-        Part::Accept => write_number(out, "the accept list of the If #", number, ""),
-        Part::Reject => write_number(out, "the reject list of the If #", number, ""),
-        Part::Case(index) => write_two(out, "case ", index, " of the Switch #", number, ""),
-        Part::Body => write_number(out, "the body of the Loop #", number, ""),
-        Part::Continuing => write_number(out, "the continuing part of the Loop #", number, ""),
-        Part::BreakIf => write_number(out, "the break condition of #", number, ""),
+        StatementPart::Block => write_number(out, "the Block #", number, ""),
+        StatementPart::Accept => write_number(out, "the accept list of the If #", number, ""),
+        StatementPart::Reject => write_number(out, "the reject list of the If #", number, ""),
+        StatementPart::Case(index) => write_two(
+            out,
+            "case ",
+            index,
+            " of the Switch #",
+            number,
+            "",
+        ),
+        StatementPart::Body => write_number(out, "the body of the Loop #", number, ""),
+        StatementPart::Continuing => write_number(
+            out,
+            "the continuing part of the Loop #",
+            number,
+            "",
+        ),
+        StatementPart::BreakIf => write_number(out, "the break condition of #", number, ""),
     }
 }
 
@@ -326,7 +343,7 @@ pub(crate) fn write_twin<W: fmt::Write>(
 /// Writes the first of two inputs or outputs that have one location or are one built-in.
 fn write_bound_twin<W: fmt::Write>(
     out: &mut W,
-    bounds: &[Bound],
+    bounds: &[BoundSpot],
     fault: &VaryingError,
 ) -> fmt::Result {
     if !is_of_twins(fault) {

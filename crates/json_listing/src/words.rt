@@ -1,6 +1,6 @@
 //! Statements, parts of statements and types in the words of the IR.
 
-use json_places::Part;
+use json_places::StatementPart;
 use layer_sentences::kinds::name_of;
 use naga_below::{Expression, Handle, Module, Name, Range, Statement, SwitchCase, TypeInner, tag};
 use std::fmt;
@@ -156,16 +156,16 @@ fn is_kind(name: &str) -> bool {
 pub(crate) fn write_part<W: fmt::Write>(
     out: &mut W,
     statement: &Statement,
-    part: Part,
+    part: StatementPart,
 ) -> fmt::Result {
     match part {
-        Part::Block => out.write_str("the list"),
-        Part::Accept => out.write_str("accept"),
-        Part::Reject => out.write_str("reject"),
-        Part::Body => out.write_str("body"),
-        Part::Continuing => out.write_str("continuing"),
-        Part::BreakIf => out.write_str("break_if"),
-        Part::Case(index) => match statement {
+        StatementPart::Block => out.write_str("the list"),
+        StatementPart::Accept => out.write_str("accept"),
+        StatementPart::Reject => out.write_str("reject"),
+        StatementPart::Body => out.write_str("body"),
+        StatementPart::Continuing => out.write_str("continuing"),
+        StatementPart::BreakIf => out.write_str("break_if"),
+        StatementPart::Case(index) => match statement {
             Statement::Switch { cases, .. } => match cases.as_slice().get(index) {
                 Some(case) => write_case(out, index, case),
                 None => write_number(out, "case ", index, ""),

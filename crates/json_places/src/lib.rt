@@ -17,4 +17,6 @@ pub use crate::misfits::locate_misfit;
 pub use crate::place::JsonPointer;
 pub use crate::scope::Reason;
 pub use crate::spot::{EntryPart, Spot};
-pub use crate::statements::{Inside, ListedStatement, Part, Position, statements_of};
+pub use crate::statements::{
+    Inside, ListedPosition, ListedStatement, StatementPart, statements_of,
+};

@@ -5,7 +5,7 @@ use crate::place::{
     JsonPointer, add_field, add_index, add_item, add_members, add_name, add_position,
 };
 use crate::spot::Spot;
-use crate::statements::{Position, statements_of};
+use crate::statements::{ListedPosition, statements_of};
 use ir_misfits::{EntryField, Misfit, Owner, Place, StatementField, TypeField, TypeOwner};
 use json_nodes::Step;
 use naga_below::{Block, Module};
@@ -210,8 +210,8 @@ fn add_statement(
 ) -> Result<(), AllocError> {
     let listed = statements_of(alloc, body)?;
     let position = match field {
-        StatementField::BreakIf => Position::BreakIf(number),
-        _ => Position::Statement(number),
+        StatementField::BreakIf => ListedPosition::BreakIf(number),
+        _ => ListedPosition::Statement(number),
     };
     add_position(alloc, steps, position, listed.as_slice())
 }

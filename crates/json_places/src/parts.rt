@@ -7,7 +7,7 @@ use std::alloc::{AllocError, Global};
 
 /// An argument, a result or a member of a struct, with its binding.
 #[derive(Clone, Copy)]
-pub struct Bound {
+pub struct BoundSpot {
     pub spot: Spot,
     pub binding: Binding,
 }
@@ -30,7 +30,7 @@ pub fn bounds_of(
     module: &Module,
     ep: &EntryPoint,
     group: Group,
-) -> Result<Vec<Bound>, AllocError> {
+) -> Result<Vec<BoundSpot>, AllocError> {
     let mut bounds = Vec::new(alloc);
     add_group(&mut bounds, module, ep, group)?;
     Ok(bounds)
@@ -38,7 +38,7 @@ pub fn bounds_of(
 
 /// Adds what has a binding in a group.
 fn add_group(
-    bounds: &mut Vec<Bound>,
+    bounds: &mut Vec<BoundSpot>,
     module: &Module,
     ep: &EntryPoint,
     group: Group,
@@ -76,7 +76,7 @@ fn add_group(
 
 /// Adds what has a binding in the arguments from the first of these to the last.
 fn add_arguments(
-    bounds: &mut Vec<Bound>,
+    bounds: &mut Vec<BoundSpot>,
     module: &Module,
     ep: &EntryPoint,
     first: usize,
@@ -98,14 +98,14 @@ fn add_arguments(
 
 /// Adds something with its binding, or, where it has none and is a struct, each member that has one.
 fn add(
-    bounds: &mut Vec<Bound>,
+    bounds: &mut Vec<BoundSpot>,
     module: &Module,
     spot: Spot,
     ty: Handle<tag::Type>,
     binding: &Option<Binding>,
 ) -> Result<(), AllocError> {
     if let Some(binding) = binding {
-        bounds.push(Bound {
+        bounds.push(BoundSpot {
             spot,
             binding: *binding,
         })?;
@@ -114,7 +114,7 @@ fn add(
     for (index, member) in members_of(module, ty).iter().enumerate() {
         if let Some(binding) = member.binding {
             let spot = Spot::Member { ty, index };
-            bounds.push(Bound { spot, binding })?;
+            bounds.push(BoundSpot { spot, binding })?;
         }
     }
     Ok(())
@@ -132,7 +132,7 @@ pub fn members_of(module: &Module, ty: Handle<tag::Type>) -> &[StructMember] {
 }
 
 /// The first that has the location or the built-in of a fault.
-pub fn first_of(bounds: &[Bound], fault: &VaryingError) -> Option<Spot> {
+pub fn first_of(bounds: &[BoundSpot], fault: &VaryingError) -> Option<Spot> {
     for bound in bounds {
         if is_named(fault, &bound.binding) {
             return Some(bound.spot);
@@ -142,7 +142,7 @@ pub fn first_of(bounds: &[Bound], fault: &VaryingError) -> Option<Spot> {
 }
 
 /// The second that has the location or the built-in of a fault.
-pub(crate) fn second_of(bounds: &[Bound], fault: &VaryingError) -> Option<Spot> {
+pub(crate) fn second_of(bounds: &[BoundSpot], fault: &VaryingError) -> Option<Spot> {
     let mut is_second = false;
     for bound in bounds {
         if is_named(fault, &bound.binding) {

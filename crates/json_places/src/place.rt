@@ -1,7 +1,7 @@
 //! Where in a document something stands, as a JSON pointer.
 
 use crate::spot::Spot;
-use crate::statements::{Inside, ListedStatement, Part, Position, way_to};
+use crate::statements::{Inside, ListedPosition, ListedStatement, StatementPart, way_to};
 use check_faults::Subject;
 use ir_misfits::Shortage;
 use json_nodes::Step;
@@ -190,13 +190,13 @@ fn add_in_function(
 pub(crate) fn add_position(
     alloc: Global,
     steps: &mut Vec<Step>,
-    position: Position,
+    position: ListedPosition,
     listed: &[ListedStatement<'_>],
 ) -> Result<(), AllocError> {
     add_name(steps, "body")?;
     let way = way_to(alloc, listed, position)?;
     add_way(steps, way.as_slice(), listed)?;
-    if let Position::Statement(number) = position {
+    if let ListedPosition::Statement(number) = position {
         if let Some(node) = listed.get(number) {
             return add_index(steps, node.index);
         }
@@ -229,18 +229,18 @@ fn add_statement(steps: &mut Vec<Step>, node: &ListedStatement<'_>) -> Result<()
 }
 
 /// Adds the way from a statement to a part of it.
-fn add_part(steps: &mut Vec<Step>, part: Part) -> Result<(), AllocError> {
+fn add_part(steps: &mut Vec<Step>, part: StatementPart) -> Result<(), AllocError> {
     match part {
-        Part::Block => add_name(steps, "Block"),
-        Part::Accept => add_field(steps, "If", "accept"),
-        Part::Reject => add_field(steps, "If", "reject"),
-        Part::Case(index) => {
+        StatementPart::Block => add_name(steps, "Block"),
+        StatementPart::Accept => add_field(steps, "If", "accept"),
+        StatementPart::Reject => add_field(steps, "If", "reject"),
+        StatementPart::Case(index) => {
             add_name(steps, "Switch")?;
             add_item(steps, "cases", index)?;
             add_name(steps, "body")
         }
-        Part::Body => add_field(steps, "Loop", "body"),
-        Part::Continuing => add_field(steps, "Loop", "continuing"),
-        Part::BreakIf => add_field(steps, "Loop", "break_if"),
+        StatementPart::Body => add_field(steps, "Loop", "body"),
+        StatementPart::Continuing => add_field(steps, "Loop", "continuing"),
+        StatementPart::BreakIf => add_field(steps, "Loop", "break_if"),
     }
 }

@@ -1,7 +1,7 @@
 //! Why an expression can't be used where it is used.
 
 use crate::statements::{
-    Inside, ListedStatement, Part, Position, emits, loop_part, parts_around, way_to,
+    Inside, ListedPosition, ListedStatement, StatementPart, emits, loop_part, parts_around, way_to,
 };
 use naga_below::{Handle, Statement, tag};
 use std::alloc::{AllocError, Global};
@@ -39,7 +39,7 @@ pub enum Reason {
 pub(crate) fn reason_of(
     alloc: Global,
     listed: &[ListedStatement<'_>],
-    position: Position,
+    position: ListedPosition,
     handle: Handle<tag::Expression>,
 ) -> Result<Reason, AllocError> {
     let way = way_to(alloc, listed, position)?;
@@ -61,7 +61,7 @@ pub(crate) fn reason_of(
 pub fn first_emission(
     alloc: Global,
     listed: &[ListedStatement<'_>],
-    position: Position,
+    position: ListedPosition,
     handle: Handle<tag::Expression>,
 ) -> Result<Option<usize>, AllocError> {
     let way = way_to(alloc, listed, position)?;
@@ -99,7 +99,7 @@ fn is_later(reason: Reason) -> bool {
 /// the expression is in scope at the position.
 fn found(
     listed: &[ListedStatement<'_>],
-    position: Position,
+    position: ListedPosition,
     emitted: usize,
     around: &[Inside],
     way: &[Inside],
@@ -130,7 +130,7 @@ fn found(
 /// The first Loop of which one of these is a list.
 fn outermost_loop(parts: &[Inside]) -> Option<usize> {
     for inside in parts {
-        if matches!(inside.part, Part::Body | Part::Continuing) {
+        if matches!(inside.part, StatementPart::Body | StatementPart::Continuing) {
             return Some(inside.number);
         }
     }
@@ -138,10 +138,11 @@ fn outermost_loop(parts: &[Inside]) -> Option<usize> {
 }
 
 /// Whether a statement, with the parts around it, is visited before a position.
-fn comes_before(position: Position, number: usize, around: &[Inside]) -> bool {
+fn comes_before(position: ListedPosition, number: usize, around: &[Inside]) -> bool {
     match position {
-        Position::Statement(at) => number < at,
-        Position::BreakIf(at) => number < at || around.iter().any(|inside| inside.number == at),
+        ListedPosition::Statement(at) => number < at,
+        ListedPosition::BreakIf(at) => number < at
+            || around.iter().any(|inside| inside.number == at),
     }
 }
 
@@ -162,8 +163,11 @@ fn has_one_scope(one: Inside, other: Option<&Inside>) -> bool {
     match other {
         Some(other) => {
             one.number == other.number
-                && matches!(one.part, Part::Body | Part::Continuing)
-                && matches!(other.part, Part::Continuing | Part::BreakIf)
+                && matches!(one.part, StatementPart::Body | StatementPart::Continuing)
+                && matches!(
+                    other.part,
+                    StatementPart::Continuing | StatementPart::BreakIf
+                )
         }
         None => false,
     }

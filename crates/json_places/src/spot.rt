@@ -1,12 +1,13 @@
 //! What of a function or of an entry point has a fault.
 
-use crate::parts::{Bound, Group, bounds_of, first_of, members_of, second_of};
-use crate::statements::{ListedStatement, Position};
+use crate::parts::{BoundSpot, Group, bounds_of, first_of, members_of, second_of};
+use crate::statements::{ListedPosition, ListedStatement};
 use check_faults::EntryPointError;
 use ir_misfits::Shortage;
+use ir_types::type_methods::{inner_at, is_struct};
 use naga_below::{
     Capabilities, EntryPoint, Function, Handle, MeshStageInfo, Module, ShaderStage, Span,
-    Statement, TypeInner, tag,
+    Statement, tag,
 };
 use naga_rules::{FunctionError, VaryingError};
 use std::alloc::{AllocError, Global};
@@ -59,7 +60,7 @@ impl MeshField {
 #[derive(Clone, Copy)]
 pub enum Spot {
     /// A statement of the body, or the break condition of a Loop.
-    At(Position),
+    At(ListedPosition),
     Expression(Handle<tag::Expression>),
     Local(Handle<tag::LocalVariable>),
     /// An argument, counted from 0.
@@ -98,10 +99,10 @@ pub(crate) fn spot_in_function(
 }
 
 /// A fault of a Loop itself is one of its break condition, since a Loop has no other check of its own.
-fn position_of(statement: &Statement, number: usize) -> Position {
+fn position_of(statement: &Statement, number: usize) -> ListedPosition {
     match statement {
-        Statement::Loop { .. } => Position::BreakIf(number),
-        _ => Position::Statement(number),
+        Statement::Loop { .. } => ListedPosition::BreakIf(number),
+        _ => ListedPosition::Statement(number),
     }
 }
 
@@ -190,7 +191,7 @@ fn argument_spot(
 
 /// Of a group of inputs or outputs, what has a fault that says its location or its built-in: the second of two that have
 /// the same, else the first of those that are checked.
-fn bound_spot(group: &[Bound], checked: &[Bound], fault: &VaryingError) -> Option<Spot> {
+fn bound_spot(group: &[BoundSpot], checked: &[BoundSpot], fault: &VaryingError) -> Option<Spot> {
     match fault {
         VaryingError::BindingCollision { .. } | VaryingError::DuplicateBuiltIn(_) => {
             second_of(group, fault)
@@ -299,19 +300,12 @@ fn mesh_field_spot(module: &Module, ep: &EntryPoint, fault: &EntryPointError) ->
             MeshField::PrimitiveOutputType,
         ),
         EntryPointError::InvalidMeshOutputType => match &ep.mesh_info {
-            Some(mesh) if is_struct(module, mesh.vertex_output_type) => {
+            Some(mesh) if is_struct(inner_at(module.types.as_slice(), mesh.vertex_output_type)) => {
                 Spot::MeshField(MeshField::PrimitiveOutputType)
             }
             _ => Spot::MeshField(MeshField::VertexOutputType),
         },
         _ => Spot::Whole,
-    }
-}
-
-fn is_struct(module: &Module, ty: Handle<tag::Type>) -> bool {
-    match module.types.as_slice().get(ty.index()) {
-        Some(ty) => matches!(ty.inner, TypeInner::Struct { .. }),
-        None => false,
     }
 }
 

@@ -5,7 +5,7 @@ use std::alloc::{AllocError, Global};
 
 /// A part of a statement: one of its lists of statements, or the break condition of a Loop. Cases count from 0.
 #[derive(Clone, Copy, PartialEq)]
-pub enum Part {
+pub enum StatementPart {
     Block,
     Accept,
     Reject,
@@ -19,7 +19,7 @@ pub enum Part {
 #[derive(Clone, Copy, PartialEq)]
 pub struct Inside {
     pub number: usize,
-    pub part: Part,
+    pub part: StatementPart,
 }
 
 /// A statement of a body. Its number is its place in the list that [`statements_of`] makes.
@@ -36,16 +36,16 @@ pub struct ListedStatement<'a> {
 
 /// Where in a body something is used: at a statement, or at the break condition of a Loop.
 #[derive(Clone, Copy, PartialEq)]
-pub enum Position {
+pub enum ListedPosition {
     Statement(usize),
     BreakIf(usize),
 }
 
-impl Position {
+impl ListedPosition {
     /// The number of the statement.
     pub fn number(self) -> usize {
         match self {
-            Position::Statement(number) | Position::BreakIf(number) => number,
+            ListedPosition::Statement(number) | ListedPosition::BreakIf(number) => number,
         }
     }
 }
@@ -90,10 +90,25 @@ fn add_parts<'a>(
     located: &'a Located,
 ) -> Result<(), AllocError> {
     match &located.statement {
-        Statement::Block(block) => add_block(listed, list_of(number, Part::Block), depth, block),
+        Statement::Block(block) => add_block(
+            listed,
+            list_of(number, StatementPart::Block),
+            depth,
+            block,
+        ),
         Statement::If { accept, reject, .. } => {
-            add_block(listed, list_of(number, Part::Accept), depth, accept)?;
-            add_block(listed, list_of(number, Part::Reject), depth, reject)
+            add_block(
+                listed,
+                list_of(number, StatementPart::Accept),
+                depth,
+                accept,
+            )?;
+            add_block(
+                listed,
+                list_of(number, StatementPart::Reject),
+                depth,
+                reject,
+            )
         }
         Statement::Switch { cases, .. } => add_cases(listed, number, depth, cases.as_slice()),
         Statement::Loop {
@@ -101,8 +116,13 @@ fn add_parts<'a>(
             continuing,
             ..
         } => {
-            add_block(listed, list_of(number, Part::Body), depth, body)?;
-            add_block(listed, list_of(number, Part::Continuing), depth, continuing)
+            add_block(listed, list_of(number, StatementPart::Body), depth, body)?;
+            add_block(
+                listed,
+                list_of(number, StatementPart::Continuing),
+                depth,
+                continuing,
+            )
         }
         Statement::Emit(_)
         | Statement::Break
@@ -137,7 +157,7 @@ fn add_cases<'a>(
     for (index, case) in cases.iter().enumerate() {
         add_block(
             listed,
-            list_of(number, Part::Case(index)),
+            list_of(number, StatementPart::Case(index)),
             depth,
             &case.body,
         )?;
@@ -146,7 +166,7 @@ fn add_cases<'a>(
 }
 
 /// The list of a statement.
-fn list_of(number: usize, part: Part) -> Option<Inside> {
+fn list_of(number: usize, part: StatementPart) -> Option<Inside> {
     Some(Inside { number, part })
 }
 
@@ -173,13 +193,13 @@ pub(crate) fn parts_around(
 pub fn way_to(
     alloc: Global,
     listed: &[ListedStatement<'_>],
-    position: Position,
+    position: ListedPosition,
 ) -> Result<Vec<Inside>, AllocError> {
     let mut way = parts_around(alloc, listed, position.number())?;
-    if let Position::BreakIf(number) = position {
+    if let ListedPosition::BreakIf(number) = position {
         way.push(Inside {
             number,
-            part: Part::BreakIf,
+            part: StatementPart::BreakIf,
         })?;
     }
     Ok(way)
@@ -198,7 +218,8 @@ pub(crate) fn loop_part(listed: &[ListedStatement<'_>], number: usize) -> Option
     let mut at = number;
     for _ in 0..listed.len() {
         match inside_of(listed, at) {
-            Some(inside) if matches!(inside.part, Part::Body | Part::Continuing) => {
+            Some(inside)
+                if matches!(inside.part, StatementPart::Body | StatementPart::Continuing) => {
                 return Some(inside);
             }
             Some(inside) => at = inside.number,

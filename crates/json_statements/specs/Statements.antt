@@ -10,8 +10,8 @@ use Rattle.ir_statements.specs.declared.statements.Statement as statement
 use Rattle.ir_statements.specs.declared.statements.SwitchCase.{SwitchCase, SwitchCase'}
 use Rattle.ir_arena.specs.declared.span.Span.{Span}
 use Rattle.json_statements.specs.declared.leaves.LeafName.TheVariants as leaf
-use Rattle.json_statements.specs.declared.statements.BareName.{BareName}
-use Rattle.json_statements.specs.declared.statements.BareName.TheVariants as bare
+use Rattle.json_statements.specs.declared.statements.BareStatementName.{BareStatementName}
+use Rattle.json_statements.specs.declared.statements.BareStatementName.TheVariants as bare
 use Rattle.json_statements.specs.declared.statements.StatementName.{StatementName}
 use Rattle.json_statements.specs.declared.statements.StatementName.TheVariants as name
 use Rattle.json_values.specs.Form.{field_of, fielded, given, has_field, list_of, optional, two_of}
@@ -28,7 +28,7 @@ abbrev pub span_of : Data → Option Span
 span_of d = option_map span_from (two_of u32_of u32_of d)
 
 -- the statements that hold nothing
-abbrev pub bare_statements : List (List ℕ × BareName)
+abbrev pub bare_statements : List (List ℕ × BareStatementName)
 bare_statements = (codes "Break", bare.Break) ∷ (codes "Continue", bare.Continue) ∷ (codes "Kill", bare.Kill) ∷ []
 
 -- the statements that hold something
@@ -47,7 +47,7 @@ statements =
     (codes "CooperativeStore", name.Leaf leaf.CooperativeStore) ∷
     (codes "RayPipelineFunction", name.Leaf leaf.RayPipelineFunction) ∷ []
 
-abbrev pub bare_from : BareName → Statement
+abbrev pub bare_from : BareStatementName → Statement
 bare_from bare.Break = statement.Break
 bare_from bare.Continue = statement.Continue
 bare_from bare.Kill = statement.Kill
@@ -82,7 +82,7 @@ module _ (block : Data → Option Block) where
       given (field_of (list_of case_with) (codes "cases") d) (λ cases.
       Some (statement.Switch selector cases))))
 
-  abbrev pub statement_from : Variant BareName StatementName → Option Statement
+  abbrev pub statement_from : Variant BareStatementName StatementName → Option Statement
   statement_from (plain x) = Some (bare_from x)
   statement_from (holding name.Block d) = option_map statement.Block (block d)
   statement_from (holding name.If d) = if_with d

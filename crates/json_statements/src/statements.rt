@@ -36,17 +36,17 @@ impl FromJson<Statements> for Span {
 
 /// The statements that hold nothing.
 #[derive(Clone, Copy)]
-enum BareName {
+enum BareStatementName {
     Break,
     Continue,
     Kill,
 }
 
 /// Their names.
-const BARE_STATEMENTS: [(&str, BareName); 3] = [
-    ("Break", BareName::Break),
-    ("Continue", BareName::Continue),
-    ("Kill", BareName::Kill),
+const BARE_STATEMENTS: [(&str, BareStatementName); 3] = [
+    ("Break", BareStatementName::Break),
+    ("Continue", BareStatementName::Continue),
+    ("Kill", BareStatementName::Kill),
 ];
 
 /// The statements that hold something.
@@ -107,13 +107,13 @@ const STATEMENTS: [(&str, StatementName); 20] = [
     ),
 ];
 
-fn bare_statement(name: BareName) -> Statement
+fn bare_statement(name: BareStatementName) -> Statement
     ensures { result ≡ bare_from name }
 {
     match name {
-        BareName::Break => Statement::Break,
-        BareName::Continue => Statement::Continue,
-        BareName::Kill => Statement::Kill,
+        BareStatementName::Break => Statement::Break,
+        BareStatementName::Continue => Statement::Continue,
+        BareStatementName::Kill => Statement::Kill,
     }
 }
 
@@ -222,7 +222,8 @@ fn blocks_in(
     first: &'static str,
     second: &'static str,
 ) -> Result<(Block, Block), ReadError>
-    ensures { ReadsTwo (field_of (block_at levels) first.now (data_of held.entry.value.now)) (field_of (block_at levels) second.now (data_of held.entry.value.now)) result }
+    ensures { ReadsTwo (field_of (block_at levels) first.now (data_of held.entry.value.now))
+        (field_of (block_at levels) second.now (data_of held.entry.value.now)) result }
 {
     match block_in(levels, held, first) {
         Ok(one) => match block_in(levels, held, second) {

@@ -116,17 +116,17 @@ abbrev pub named : {T : Type 0} → List (List ℕ × T) → Data → Option T
 named table d = option_and_then (lookup table) (as_str d)
 
 -- a variant as it is written: its name alone, or its name and what it holds
-pub data Tagged : Type 0 where
-  plain : List ℕ → Tagged
-  holding : List ℕ → Data → Tagged
+pub data WrittenVariant : Type 0 where
+  plain : List ℕ → WrittenVariant
+  holding : List ℕ → Data → WrittenVariant
 
-abbrev pub tagged_from : Option (List ℕ) → Option (List ℕ × Data) → Option Tagged
-tagged_from (Some name) o = Some (plain name)
-tagged_from None o = option_map (λ f. holding f.0 f.1) o
+abbrev pub written_variant_from : Option (List ℕ) → Option (List ℕ × Data) → Option WrittenVariant
+written_variant_from (Some name) o = Some (plain name)
+written_variant_from None o = option_map (λ f. holding f.0 f.1) o
 
 -- a text is the name of a variant that holds nothing; the only member of an object has the name and what the variant holds
-abbrev pub tagged_of : Data → Option Tagged
-tagged_of d = tagged_from (as_str d) (given (as_object d) only_of)
+abbrev pub written_variant_of : Data → Option WrittenVariant
+written_variant_of d = written_variant_from (as_str d) (given (as_object d) only_of)
 
 -- the items of a list, each as what it stands for
 abbrev pub each_of : {T : Type 0} → (Data → Option T) → Items → Option (List T)

@@ -10,7 +10,7 @@ use Rattle.json_values.specs.Failures.{IsUnreadable}
 use Rattle.json_values.specs.Form as form
 use Rattle.json_values.specs.Variants.{Variant, plain, holding}
 
-abbrev pub tag_of : tagged.VariantForm → form.Tagged
+abbrev pub tag_of : tagged.VariantForm → form.WrittenVariant
 tag_of (tag.Plain name) = form.plain name.now
 tag_of (tag.Holding name node) = form.holding name.now (data_of node)
 

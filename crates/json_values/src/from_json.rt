@@ -163,7 +163,8 @@ impl<'h, 'v> Held<'h, 'v> {
         first: &'static str,
         second: &'static str,
     ) -> Result<(A, B), ReadError>
-        ensures { ReadsTwo (field_of A.stands_for first.now (data_of self.entry.value.now)) (field_of B.stands_for second.now (data_of self.entry.value.now)) result }
+        ensures { ReadsTwo (field_of A.stands_for first.now (data_of self.entry.value.now))
+            (field_of B.stands_for second.now (data_of self.entry.value.now)) result }
     {
         match self.get(reader, first) {
             Ok(a) => match self.get(reader, second) {
@@ -182,7 +183,9 @@ impl<'h, 'v> Held<'h, 'v> {
         second: &'static str,
         third: &'static str,
     ) -> Result<(A, B, C), ReadError>
-        ensures { ReadsThree (field_of A.stands_for first.now (data_of self.entry.value.now)) (field_of B.stands_for second.now (data_of self.entry.value.now)) (field_of C.stands_for third.now (data_of self.entry.value.now)) result }
+        ensures { ReadsThree (field_of A.stands_for first.now (data_of self.entry.value.now))
+            (field_of B.stands_for second.now (data_of self.entry.value.now))
+            (field_of C.stands_for third.now (data_of self.entry.value.now)) result }
     {
         match self.pair(reader, first, second) {
             Ok((a, b)) => match self.get(reader, third) {
@@ -202,7 +205,10 @@ impl<'h, 'v> Held<'h, 'v> {
         third: &'static str,
         fourth: &'static str,
     ) -> Result<(A, B, C, D), ReadError>
-        ensures { ReadsFour (field_of A.stands_for first.now (data_of self.entry.value.now)) (field_of B.stands_for second.now (data_of self.entry.value.now)) (field_of C.stands_for third.now (data_of self.entry.value.now)) (field_of D.stands_for fourth.now (data_of self.entry.value.now)) result }
+        ensures { ReadsFour (field_of A.stands_for first.now (data_of self.entry.value.now))
+            (field_of B.stands_for second.now (data_of self.entry.value.now))
+            (field_of C.stands_for third.now (data_of self.entry.value.now))
+            (field_of D.stands_for fourth.now (data_of self.entry.value.now)) result }
     {
         match self.pair(reader, first, second) {
             Ok((a, b)) => match self.pair(reader, third, fourth) {
@@ -231,7 +237,8 @@ impl<'h, 'v> Held<'h, 'v> {
         reader: R,
         names: &(&'static str, &'static str),
     ) -> Result<(A, B), ReadError>
-        ensures { ReadsMeaning (two_fields names.now.0.now A.stands_for names.now.1.now B.stands_for (data_of self.entry.value.now)) result }
+        ensures { ReadsMeaning (two_fields names.now.0.now A.stands_for names.now.1.now B.stands_for
+            (data_of self.entry.value.now)) result }
     {
         match self.fields(&[names.0, names.1]) {
             Ok(()) => self.pair(reader, names.0, names.1),
@@ -246,7 +253,8 @@ impl<'h, 'v> Held<'h, 'v> {
         reader: R,
         names: &(&'static str, &'static str, &'static str),
     ) -> Result<(A, B, C), ReadError>
-        ensures { ReadsMeaning (three_fields names.now.0.now A.stands_for names.now.1.now B.stands_for names.now.2.now C.stands_for (data_of self.entry.value.now)) result }
+        ensures { ReadsMeaning (three_fields names.now.0.now A.stands_for names.now.1.now B.stands_for
+            names.now.2.now C.stands_for (data_of self.entry.value.now)) result }
     {
         match self.fields(&[names.0, names.1, names.2]) {
             Ok(()) => self.triple(reader, names.0, names.1, names.2),
@@ -261,7 +269,8 @@ impl<'h, 'v> Held<'h, 'v> {
         reader: R,
         names: &(&'static str, &'static str, &'static str, &'static str),
     ) -> Result<(A, B, C, D), ReadError>
-        ensures { ReadsMeaning (four_fields names.now.0.now A.stands_for names.now.1.now B.stands_for names.now.2.now C.stands_for names.now.3.now D.stands_for (data_of self.entry.value.now)) result }
+        ensures { ReadsMeaning (four_fields names.now.0.now A.stands_for names.now.1.now B.stands_for
+            names.now.2.now C.stands_for names.now.3.now D.stands_for (data_of self.entry.value.now)) result }
     {
         match self.fields(&[names.0, names.1, names.2, names.3]) {
             Ok(()) => self.quad(reader, names.0, names.1, names.2, names.3),
@@ -289,7 +298,8 @@ impl<'h, 'v> Held<'h, 'v> {
             &'static str,
         ),
     ) -> Result<(A, B, C, D, E), ReadError>
-        ensures { ReadsMeaning (five_fields names.now.0.now A.stands_for names.now.1.now B.stands_for names.now.2.now C.stands_for names.now.3.now D.stands_for names.now.4.now E.stands_for (data_of self.entry.value.now)) result }
+        ensures { ReadsMeaning (five_fields names.now.0.now A.stands_for names.now.1.now B.stands_for names.now.2.now C.stands_for
+            names.now.3.now D.stands_for names.now.4.now E.stands_for (data_of self.entry.value.now)) result }
     {
         match self.fields(&[names.0, names.1, names.2, names.3, names.4]) {
             Ok(()) => match self.quad(reader, names.0, names.1, names.2, names.3) {
@@ -325,7 +335,9 @@ impl<'h, 'v> Held<'h, 'v> {
             &'static str,
         ),
     ) -> Result<(A, B, C, D, E, F), ReadError>
-        ensures { ReadsMeaning (six_fields names.now.0.now A.stands_for names.now.1.now B.stands_for names.now.2.now C.stands_for names.now.3.now D.stands_for names.now.4.now E.stands_for names.now.5.now F.stands_for (data_of self.entry.value.now)) result }
+        ensures { ReadsMeaning (six_fields names.now.0.now A.stands_for names.now.1.now B.stands_for
+            names.now.2.now C.stands_for names.now.3.now D.stands_for names.now.4.now E.stands_for names.now.5.now F.stands_for
+            (data_of self.entry.value.now)) result }
     {
         match self.fields(&[names.0, names.1, names.2, names.3, names.4, names.5]) {
             Ok(()) => match self.triple(reader, names.0, names.1, names.2) {
@@ -365,7 +377,9 @@ impl<'h, 'v> Held<'h, 'v> {
             &'static str,
         ),
     ) -> Result<(A, B, C, D, E, F, G, H), ReadError>
-        ensures { ReadsMeaning (eight_fields names.now.0.now A.stands_for names.now.1.now B.stands_for names.now.2.now C.stands_for names.now.3.now D.stands_for names.now.4.now E.stands_for names.now.5.now F.stands_for names.now.6.now G.stands_for names.now.7.now H.stands_for (data_of self.entry.value.now)) result }
+        ensures { ReadsMeaning (eight_fields names.now.0.now A.stands_for names.now.1.now B.stands_for
+            names.now.2.now C.stands_for names.now.3.now D.stands_for names.now.4.now E.stands_for names.now.5.now F.stands_for
+            names.now.6.now G.stands_for names.now.7.now H.stands_for (data_of self.entry.value.now)) result }
     {
         match self.fields(&[
             names.0, names.1, names.2, names.3, names.4, names.5, names.6, names.7,

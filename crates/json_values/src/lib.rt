@@ -1,5 +1,5 @@
-//! Reads values of a JSON document by what they stand for (the trait [`FromJson`]): objects, variants, lists, sets, numbers and scalars.
-//! Part of `naga_judge`; no promise to users.
+//! Reads values of a JSON document by what they stand for (the trait [`FromJson`]): objects, variants, lists, sets, numbers and
+//! scalars. Part of `naga_judge`; no promise to users.
 #![tactic(auto)]
 
 mod error;

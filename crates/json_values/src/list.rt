@@ -156,7 +156,8 @@ fn read_triple<R: Copy, A: FromJson<R>, B: FromJson<R>, C: FromJson<R>>(
     second: &Node,
     third: &Node,
 ) -> Result<(A, B, C), ReadError>
-    ensures { ReadsThree (A.stands_for (data_of first.now)) (B.stands_for (data_of second.now)) (C.stands_for (data_of third.now)) result }
+    ensures { ReadsThree (A.stands_for (data_of first.now)) (B.stands_for (data_of second.now))
+        (C.stands_for (data_of third.now)) result }
 {
     match read_pair(reader, alloc, first, second) {
         Ok((a, b)) => match read_at(reader, alloc, Step::Index(2), third) {

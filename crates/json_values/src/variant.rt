@@ -3,7 +3,7 @@
 ghost use Rattle.std.specs.Prelude.{◌≡◌, [], option_map, option_and_then};
 ghost use Rattle.serde_json.specs.Find.{as_str};
 ghost use Rattle.json_nodes.specs.Nodes.{data_of};
-ghost use Rattle.json_values.specs.Form.{given, lookup, tagged_of};
+ghost use Rattle.json_values.specs.Form.{given, lookup, written_variant_of};
 ghost use Rattle.json_values.specs.Reads.{ReadsMeaning, rows_of};
 ghost use Rattle.json_values.specs.Variants.{either, variant_of};
 ghost use Rattle.json_values.specs.ReadsVariants.{ReadsVariant, tag_of};
@@ -52,7 +52,7 @@ pub(crate) enum VariantForm<'v> {
 
 /// The variant that a value is, if it can be one.
 fn tag<'v>(value: &Node<'v>) -> Option<VariantForm<'v>>
-    ensures { option_map tag_of result ≡ tagged_of (data_of value.now) }
+    ensures { option_map tag_of result ≡ written_variant_of (data_of value.now) }
 {
     if let Some(name) = value.as_str() {
         return Some(VariantForm::Plain(name));
@@ -116,7 +116,8 @@ pub fn read_either<E: Holding<N, R> + Copy, N: Copy, R: Copy>(
     plain: &[(&'static str, E)],
     holding: &[(&'static str, N)],
 ) -> Result<E, ReadError>
-    ensures { ReadsMeaning (given (variant_of (rows_of plain.now) (rows_of holding.now) (data_of outer.entry.value.now)) (either E.held_of)) result }
+    ensures { ReadsMeaning (given (variant_of (rows_of plain.now) (rows_of holding.now) (data_of outer.entry.value.now))
+        (either E.held_of)) result }
 {
     match read_variant(outer.alloc, outer.value, plain, holding) {
         Ok(Variant::Plain(found)) => Ok(found),
@@ -138,7 +139,8 @@ pub fn read_holding<E: Holding<N, R>, N: Copy, R: Copy>(
     outer: Held,
     holding: &[(&'static str, N)],
 ) -> Result<E, ReadError>
-    ensures { ReadsMeaning (given (variant_of [] (rows_of holding.now) (data_of outer.entry.value.now)) (either E.held_of)) result }
+    ensures { ReadsMeaning (given (variant_of [] (rows_of holding.now) (data_of outer.entry.value.now))
+        (either E.held_of)) result }
 {
     if let Some(VariantForm::Holding(name, inner)) = tag(outer.value) {
         if let Some((name, found)) = look_up(holding, name) {

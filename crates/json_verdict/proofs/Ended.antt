@@ -7,7 +7,7 @@ use Rattle.std.specs.Io.KnownBytes.{Keeps}
 use Rattle.json_verdict.specs.Runs.{with_byte, lines_of, IsReply, Replies, AreReplies, RepliesToLines}
 use Rattle.json_answers.specs.declared.form.Form.TheVariants as forms
 use Rattle.json_verdict.specs.declared.stream.Stream.{Stream}
-use Rattle.json_verdict.specs.walk.Lines.{IsPlain, is_begun, Follows}
+use Rattle.json_verdict.specs.walk.Lines.{IsPlain, is_begun, HasTaken}
 use Rattle.json_verdict.specs.walk.Stream.{Holds}
 
 plain_more : (line part : List ℕ) → IsPlain line → IsPlain part → IsPlain (line ++ part)
@@ -54,10 +54,10 @@ replies_push (t ∷ ts) out status text line this (first, rest, a, others, is, m
 )
 
 -- nothing has come in
-pub follows_none : (s : Stream) (start : Option (List ℕ)) → Holds s.bytes [] → s.is_begun ≡ false → s.status ≡ 0
-    → Follows s [] start start
+pub taken_none : (s : Stream) (start : Option (List ℕ)) → Holds s.bytes [] → s.is_begun ≡ false → s.status ≡ 0
+    → HasTaken s [] start start
 unfolding AreReplies
-follows_none s start kept begun status = record {
+taken_none s start kept begun status = record {
   done = [];
   line = [];
   out = [];
@@ -70,11 +70,11 @@ follows_none s start kept begun status = record {
 }
 
 -- bytes that are no newline
-pub follows_part : (s t : Stream) (input part : List ℕ) (old new : Option (List ℕ)) → IsPlain part → is_begun part ≡ true
-    → Follows s input old new
+pub taken_part : (s t : Stream) (input part : List ℕ) (old new : Option (List ℕ)) → IsPlain part → is_begun part ≡ true
+    → HasTaken s input old new
     → ((text : List ℕ) → Holds s.bytes text → Holds t.bytes (text ++ part)) → t.is_begun ≡ true → t.status ≡ s.status
-    → Follows t (input ++ part) old new
-follows_part s t input part old new plain more f kept begun status = record {
+    → HasTaken t (input ++ part) old new
+taken_part s t input part old new plain more f kept begun status = record {
   done = f.done;
   line = f.line ++ part;
   out = f.out;
@@ -92,10 +92,10 @@ no_byte [] none = refl
 no_byte (b ∷ bs) none = absurd (omega (arith, none))
 
 -- no byte
-pub follows_nothing : (s : Stream) (input part : List ℕ) (old new : Option (List ℕ)) → part ≡ [] → Follows s input old new
-    → Follows s (input ++ part) old new
-follows_nothing s input part old new none f =
-    subst (λ seen. Follows s seen old new) (sym (ap (λ l. input ++ l) none ∙ append-nil input)) f
+pub taken_nothing : (s : Stream) (input part : List ℕ) (old new : Option (List ℕ)) → part ≡ [] → HasTaken s input old new
+    → HasTaken s (input ++ part) old new
+taken_nothing s input part old new none f =
+    subst (λ seen. HasTaken s seen old new) (sym (ap (λ l. input ++ l) none ∙ append-nil input)) f
 
 -- a line whose newline was seen, and what comes after it
 pub line_seen : (input seen line : List ℕ) → ((input ++ seen) ++ line) ++ 10 ∷ [] ≡ input ++ (seen ++ (line ++ 10 ∷ []))
@@ -107,10 +107,10 @@ line_cut seen line after =
     ap (λ l. seen ++ l) (sym (append_assoc line (10 ∷ []) after)) ∙ sym (append_assoc seen (line ++ 10 ∷ []) after)
 
 -- a newline
-pub follows_end : (s t : Stream) (input : List ℕ) (old mid new : Option (List ℕ)) (this : ℕ) → Follows s input old mid
+pub taken_end : (s t : Stream) (input : List ℕ) (old mid new : Option (List ℕ)) (this : ℕ) → HasTaken s input old mid
     → ((text : List ℕ) → Holds s.bytes text → Replies forms.Json text mid new this) → Holds t.bytes []
-    → t.is_begun ≡ false → t.status ≡ max s.status this → Follows t (input ++ 10 ∷ []) old new
-follows_end s t input old mid new this f told kept begun status =
+    → t.is_begun ≡ false → t.status ≡ max s.status this → HasTaken t (input ++ 10 ∷ []) old new
+taken_end s t input old mid new this f told kept begun status =
     let (line, reply, written) = told f.line f.kept in record {
       done = f.done ++ f.line ∷ [];
       line = [];
@@ -127,16 +127,16 @@ follows_end s t input old mid new this f told kept begun status =
     }
 
 -- the input is the lines that have ended, and the one that is being read
-all_lines : (s : Stream) (input : List ℕ) (old new : Option (List ℕ)) (f : Follows s input old new)
+all_lines : (s : Stream) (input : List ℕ) (old new : Option (List ℕ)) (f : HasTaken s input old new)
     → lines_of input ≡ f.done ++ lines_of f.line
 all_lines s input old new f =
     ap lines_of (sym (append-nil input)) ∙ f.lines [] ∙ ap (λ l. f.done ++ lines_of l) (append-nil f.line)
 
 -- the input has ended in a line
-pub follows_last : (s : Stream) (input : List ℕ) (old mid new : Option (List ℕ)) (this : ℕ) → Follows s input old mid
+pub taken_last : (s : Stream) (input : List ℕ) (old mid new : Option (List ℕ)) (this : ℕ) → HasTaken s input old mid
     → s.is_begun ≡ true → ((text : List ℕ) → Holds s.bytes text → Replies forms.Json text mid new this)
     → RepliesToLines input old new (max s.status this)
-follows_last s input old mid new this f begun told =
+taken_last s input old mid new this f begun told =
     let (line, reply, written) = told f.line f.kept in
     let last : lines_of input ≡ f.done ++ f.line ∷ [] =
     all_lines s input old mid f ∙ ap (λ l. f.done ++ l) (plain_last f.line f.plain (sym f.begun ∙ begun)) in (
@@ -147,17 +147,17 @@ follows_last s input old mid new this f begun told =
     )
 
 -- the input has ended with a newline, or is empty
-pub follows_no_more : (s : Stream) (input : List ℕ) (old new : Option (List ℕ)) → Follows s input old new → s.is_begun ≡ false
+pub taken_no_more : (s : Stream) (input : List ℕ) (old new : Option (List ℕ)) → HasTaken s input old new → s.is_begun ≡ false
     → RepliesToLines input old new s.status
-follows_no_more s input old new f begun =
+taken_no_more s input old new f begun =
     let none : lines_of input ≡ f.done =
     all_lines s input old new f ∙ ap (λ l. f.done ++ lines_of l) (not_begun f.line (sym f.begun ∙ begun)) ∙ append-nil f.done in
     (f.out, subst (λ ls. AreReplies ls f.out s.status) (sym none) f.replies, f.written)
 
 -- after a flush
-pub follows_kept : (s : Stream) (input : List ℕ) (old mid new : Option (List ℕ)) → Follows s input old mid
-    → Keeps mid new → Follows s input old new
-follows_kept s input old mid new f kept = record {
+pub taken_kept : (s : Stream) (input : List ℕ) (old mid new : Option (List ℕ)) → HasTaken s input old mid
+    → Keeps mid new → HasTaken s input old new
+taken_kept s input old mid new f kept = record {
   done = f.done;
   line = f.line;
   out = f.out;

@@ -72,14 +72,14 @@ impl Basis {
         }
     }
 
-    /// The first thing that doesn't fit in a module. It takes no memory.
-    pub fn misfit(&self, module: &Module) -> Option<Misfit>
+    /// The first thing that doesn't fit in a module.
+    pub fn misfit(&self, alloc: Global, module: &Module) -> Option<Misfit>
         ensures { result ≡ first_fault (module_points (meaning_of self.now.layer) self.now.given.types.items «module».now
             self.now.given.global_types.items) }
     {
         match &self.layer {
-            Some(layer) => find_misfit(&Lent { layer }, &self.given, module),
-            None => find_misfit(&Typed, &self.given, module),
+            Some(layer) => find_misfit(alloc, &Lent { layer }, &self.given, module),
+            None => find_misfit(alloc, &Typed, &self.given, module),
         }
     }
 }

@@ -20,12 +20,12 @@ use naga_module::{Misfit, ModuleFault};
 use std::alloc::Global;
 
 /// The first thing that doesn't fit in a module, if that is the fault.
-fn misfit_of(module: &Module, basis: &Basis, fault: &ModuleFault) -> Option<Misfit>
+fn misfit_of(alloc: Global, module: &Module, basis: &Basis, fault: &ModuleFault) -> Option<Misfit>
     ensures { fault.now ≡ faults.NotFit → result ≡ first_fault (module_points (meaning_of basis.now.layer)
         basis.now.given.types.items «module».now basis.now.given.global_types.items) }
 {
     match fault {
-        ModuleFault::NotFit => basis.misfit(module),
+        ModuleFault::NotFit => basis.misfit(alloc, module),
         _ => None,
     }
 }
@@ -38,7 +38,7 @@ fn find(alloc: Global, judged: JudgedModule<'_>, misfit: &Option<Misfit>) -> Opt
     judged.locate(alloc)
 }
 
-/// A module that is refused with this fault, what doesn't fit, and where the fault stands.
+/// A module that is refused with this fault, which isn't out of memory, what doesn't fit, and where the fault stands.
 fn refusal(
     alloc: Global,
     id: Option<Id>,
@@ -52,7 +52,7 @@ fn refusal(
     ensures misfit { fault ≡ faults.NotFit → result.misfit ≡ first_fault (module_points (meaning_of basis.now.layer)
         basis.now.given.types.items «module» basis.now.given.global_types.items) }
 {
-    let misfit = misfit_of(&module, basis, &fault);
+    let misfit = misfit_of(alloc, &module, basis, &fault);
     let judged = JudgedModule {
         basis,
         settings,
@@ -107,6 +107,11 @@ pub(crate) fn examine_text(
         Ok(infos) => {
             drop(basis);
             alone(id, Verdict::Accepted { module, infos })
+        }
+        Err(ModuleFault::Memory) => {
+            drop(basis);
+            drop_module(module);
+            alone(id, Verdict::Refused(ModuleFault::Memory))
         }
         Err(fault) => {
             if is_located {

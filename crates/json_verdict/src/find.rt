@@ -26,7 +26,7 @@ impl JudgedModule<'_> {
     ///
     /// The module is judged once more, over the same basis, with spans that number its statements: so its own spans need not
     /// distinguish them.
-    pub fn locate(self, alloc: Global) -> Option<Found> {
+    pub(crate) fn locate(self, alloc: Global) -> Option<Found> {
         let number = self.number(alloc);
         if number.is_none() && !spans_of(self.fault).is_empty() {
             return None;

@@ -37,7 +37,8 @@ fn memory_line(form: Form) -> &'static [u8]
 
 /// Writes a verdict, and answers its exit status. If there is no memory for its text, both are those of out of memory.
 fn reply<W: Write>(alloc: Global, writer: &mut W, examined: &Examined, form: Form) -> io::Result<u8>
-    ensures { IfOk result (λ status. WritesLineOrMemory form examined.now.id examined.now.verdict examined.now.misfit (W.contents writer.old) (W.contents writer.new) status) }
+    ensures { IfOk result (λ status. WritesLineOrMemory form examined.now.id examined.now.verdict
+        examined.now.misfit (W.contents writer.old) (W.contents writer.new) status) }
 {
     match line_of(alloc, examined, form) {
         Ok(line) => {

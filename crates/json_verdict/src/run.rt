@@ -3,7 +3,7 @@
 ghost use Rattle.std.specs.Prelude.{◌≡◌, ◌<◌, List, ℕ, [], length, IfOk, IfSome, OnOk};
 ghost use Rattle.json_verdict.specs.Runs.{Replies, RepliesToLines};
 ghost use Rattle.json_verdict.specs.walk.Stream.{Holds};
-ghost use Rattle.json_verdict.specs.walk.Lines.{Follows};
+ghost use Rattle.json_verdict.specs.walk.Lines.{HasTaken};
 
 use crate::reply::reply_to;
 use crate::stream::Stream;
@@ -74,7 +74,7 @@ fn read_lines<R: Read, W: Write>(
     chunk: &mut [u8],
 ) -> io::Result<u8>
     requires room { 0 < length chunk.old }
-    requires begins { Follows stream.old [] (W.contents writer.old) (W.contents writer.old) }
+    requires begins { HasTaken stream.old [] (W.contents writer.old) (W.contents writer.old) }
     ensures { IfOk result (λ status. IfSome (R.remaining reader.old) (λ input.
         RepliesToLines input (W.contents writer.old) (W.contents writer.new) status)) }
 {

@@ -2,7 +2,7 @@
 
 ghost use Rattle.std.specs.Prelude.{◌≡◌, max, ◌++◌, ◌∷◌, ℕ, List, [], Option, IfOk, OnOk, MatchOption};
 ghost use Rattle.json_verdict.specs.Runs.{RepliesToLines};
-ghost use Rattle.json_verdict.specs.walk.Lines.{Follows, IsPlain};
+ghost use Rattle.json_verdict.specs.walk.Lines.{HasTaken, IsPlain};
 
 use crate::reply::reply_to;
 use crate::text::Bytes;
@@ -41,7 +41,7 @@ pub(crate) struct Stream {
 impl Stream {
     /// Nothing has come in.
     pub fn new(alloc: Global) -> Self
-        ensures { (start : Option (List ℕ)) → Follows result [] start start }
+        ensures { (start : Option (List ℕ)) → HasTaken result [] start start }
     {
         Stream {
             bytes: Bytes::new(alloc),
@@ -52,8 +52,8 @@ impl Stream {
 
     /// Replies to the line.
     fn end_line<W: Write>(&mut self, alloc: Global, writer: &mut W) -> io::Result<()>
-        ensures { OnOk result ((input : List ℕ) (start : Option (List ℕ)) → Follows self.old input start (W.contents writer.old) →
-            Follows self.new (input ++ 10 ∷ []) start (W.contents writer.new)) }
+        ensures { OnOk result ((input : List ℕ) (start : Option (List ℕ)) → HasTaken self.old input start (W.contents writer.old) →
+            HasTaken self.new (input ++ 10 ∷ []) start (W.contents writer.new)) }
     {
         let status = reply_to(alloc, writer, &mut self.bytes, Form::Json)?;
         self.status = greater(self.status, status);
@@ -65,8 +65,8 @@ impl Stream {
     /// Takes bytes of the line, which have no newline.
     fn take(&mut self, part: &[u8])
         requires plain { IsPlain part.now }
-        ensures { (input : List ℕ) (start written : Option (List ℕ)) → Follows self.old input start written →
-            Follows self.new (input ++ part.now) start written }
+        ensures { (input : List ℕ) (start written : Option (List ℕ)) → HasTaken self.old input start written →
+            HasTaken self.new (input ++ part.now) start written }
     {
         if part.is_empty() {
             return;
@@ -76,14 +76,14 @@ impl Stream {
     }
 
     /// Takes these bytes, and writes the verdict of each line that ends in them.
-    pub fn take_all<W: Write>(
+    pub(crate) fn take_all<W: Write>(
         &mut self,
         alloc: Global,
         writer: &mut W,
         bytes: &[u8],
     ) -> io::Result<()>
-        ensures { OnOk result ((input : List ℕ) (start : Option (List ℕ)) → Follows self.old input start (W.contents writer.old) →
-            Follows self.new (input ++ bytes.now) start (W.contents writer.new)) }
+        ensures { OnOk result ((input : List ℕ) (start : Option (List ℕ)) → HasTaken self.old input start (W.contents writer.old) →
+            HasTaken self.new (input ++ bytes.now) start (W.contents writer.new)) }
     {
         let mut rest = bytes;
         'lines: while let Some((line, after)) = cut(rest) {
@@ -97,7 +97,8 @@ impl Stream {
 
     /// Writes the verdict of the last line, if it has a byte, and answers the greatest exit status.
     pub fn finish<W: Write>(&mut self, alloc: Global, writer: &mut W) -> io::Result<u8>
-        ensures { IfOk result (λ status. (input : List ℕ) (start : Option (List ℕ)) → Follows self.old input start (W.contents writer.old) →
+        ensures { IfOk result (λ status. (input : List ℕ) (start : Option (List ℕ)) →
+            HasTaken self.old input start (W.contents writer.old) →
             RepliesToLines input start (W.contents writer.new) status) }
     {
         if self.is_begun {

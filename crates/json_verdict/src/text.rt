@@ -67,7 +67,7 @@ impl Bytes {
     }
 
     /// Takes these bytes.
-    pub fn push_all(&mut self, bytes: &[u8])
+    pub(crate) fn push_all(&mut self, bytes: &[u8])
         ensures { (text : List ℕ) → Holds self.old text → Holds self.new (text ++ bytes.now) }
     {
         if bytes.len() <= MOST_BYTES {
@@ -87,7 +87,7 @@ impl Bytes {
     }
 
     /// Whether the verdict is known, whatever comes after these bytes.
-    pub fn is_settled(&self) -> bool
+    pub(crate) fn is_settled(&self) -> bool
         ensures { OnTrue result ((text more : List ℕ) → Holds self.now text → Holds self.now (text ++ more)) }
     {
         if self.is_lost {

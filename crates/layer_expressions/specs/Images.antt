@@ -2,6 +2,7 @@
 use Rattle.std.specs.Prelude.{ℕ, Bool, true, false, not, ◌==◌, ◌&&◌, List, Option, None, Some, slice_get}
 use Rattle.ir_module.specs.declared.expressions.Expression.{Expression}
 use Rattle.ir_module.specs.declared.expressions.Expression.TheVariants as e
+use Rattle.ir_module.specs.Operands.{access_base}
 use Rattle.ir_types.specs.declared.types.ImageClass.{ImageClass}
 use Rattle.ir_types.specs.declared.types.ImageClass.TheVariants as class
 use Rattle.ir_leaves.specs.declared.images.ImageDimension.{ImageDimension}
@@ -30,38 +31,7 @@ comparison_of _ = None
 abbrev pub is_source : Expression → Bool
 is_source (e.GlobalVariable g) = true
 is_source (e.FunctionArgument n) = true
-is_source (e.Literal l) = false
-is_source (e.Constant h) = false
-is_source (e.Override h) = false
-is_source (e.ZeroValue t) = false
-is_source (e.Compose t hs) = false
-is_source (e.Access base index) = false
-is_source (e.AccessIndex base k) = false
-is_source (e.LocalVariable h) = false
-is_source (e.Load pointer) = false
-is_source (e.CallResult f) = false
-is_source (e.AtomicResult t c) = false
-is_source (e.WorkGroupUniformLoadResult t) = false
-is_source e.RayQueryProceedResult = false
-is_source e.SubgroupBallotResult = false
-is_source (e.SubgroupOperationResult t) = false
-is_source (e.Splat d hs) = false
-is_source (e.Swizzle d hs) = false
-is_source (e.ImageSample d hs) = false
-is_source (e.ImageLoad d hs) = false
-is_source (e.ImageQuery d hs) = false
-is_source (e.Unary d hs) = false
-is_source (e.Binary d hs) = false
-is_source (e.Select d hs) = false
-is_source (e.Derivative d hs) = false
-is_source (e.Relational d hs) = false
-is_source (e.Math d hs) = false
-is_source (e.As d hs) = false
-is_source (e.ArrayLength d hs) = false
-is_source (e.RayQueryGetIntersection d hs) = false
-is_source (e.RayQueryVertexPositions d hs) = false
-is_source (e.CooperativeLoad d hs) = false
-is_source (e.CooperativeMultiplyAdd d hs) = false
+is_source _ = false
 
 abbrev pub is_source_in : Option Expression → Bool
 is_source_in None = false
@@ -70,50 +40,13 @@ is_source_in (Some x) = is_source x
 abbrev pub is_source_at : List Expression → ℕ → Bool
 is_source_at expressions h = is_source_in (slice_get expressions h)
 
--- what an expression is an item of
-abbrev pub base_of : Expression → Option ℕ
-base_of (e.Access base index) = Some base
-base_of (e.AccessIndex base k) = Some base
-base_of (e.Literal l) = None
-base_of (e.Constant h) = None
-base_of (e.Override h) = None
-base_of (e.ZeroValue t) = None
-base_of (e.Compose t hs) = None
-base_of (e.FunctionArgument n) = None
-base_of (e.GlobalVariable h) = None
-base_of (e.LocalVariable h) = None
-base_of (e.Load pointer) = None
-base_of (e.CallResult f) = None
-base_of (e.AtomicResult t c) = None
-base_of (e.WorkGroupUniformLoadResult t) = None
-base_of e.RayQueryProceedResult = None
-base_of e.SubgroupBallotResult = None
-base_of (e.SubgroupOperationResult t) = None
-base_of (e.Splat d hs) = None
-base_of (e.Swizzle d hs) = None
-base_of (e.ImageSample d hs) = None
-base_of (e.ImageLoad d hs) = None
-base_of (e.ImageQuery d hs) = None
-base_of (e.Unary d hs) = None
-base_of (e.Binary d hs) = None
-base_of (e.Select d hs) = None
-base_of (e.Derivative d hs) = None
-base_of (e.Relational d hs) = None
-base_of (e.Math d hs) = None
-base_of (e.As d hs) = None
-base_of (e.ArrayLength d hs) = None
-base_of (e.RayQueryGetIntersection d hs) = None
-base_of (e.RayQueryVertexPositions d hs) = None
-base_of (e.CooperativeLoad d hs) = None
-base_of (e.CooperativeMultiplyAdd d hs) = None
-
 abbrev pub is_resource_by : List Expression → Expression → Option ℕ → Bool
 is_resource_by expressions x None = is_source x
 is_resource_by expressions x (Some base) = is_source_at expressions base
 
 abbrev pub is_resource_in : List Expression → Option Expression → Bool
 is_resource_in expressions None = false
-is_resource_in expressions (Some x) = is_resource_by expressions x (base_of x)
+is_resource_in expressions (Some x) = is_resource_by expressions x (access_base x)
 
 abbrev pub is_resource : List Expression → ℕ → Bool
 is_resource expressions h = is_resource_in expressions (slice_get expressions h)

@@ -7,11 +7,12 @@ ghost use Rattle.layer_expressions.specs.Access.{value_item, pointer_item, item_
 use crate::rules::Rule;
 use ir_arena::handle::Handle;
 use ir_arena::tag;
+use ir_types::type_methods::inner_at;
 use ir_types::types::{AddressSpace, ArraySize, Type, TypeInner};
 use ir_types::typifier::TypeResolution;
 use layer_shapes::resolutions::{pointer_to, type_at};
 use layer_shapes::shapes::is_integer;
-use layer_types::sizes::{components_of, inner_at};
+use layer_types::sizes::components_of;
 
 /// The type of the items of a value.
 fn value_item(count: usize, inner: &TypeInner) -> Option<TypeResolution>

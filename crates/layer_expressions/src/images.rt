@@ -2,7 +2,7 @@
 
 ghost use Rattle.std.specs.Prelude.{◌≡◌};
 ghost use Rattle.std.specs.Option.{option_copied};
-ghost use Rattle.layer_expressions.specs.Images.{image_of, comparison_of, is_source, is_source_at, base_of, is_resource, has_dimension, is_float_coordinate, is_f32, is_f32_scalar, is_integer_coordinate, is_offset, is_i32, is_integer_scalar, has_levels, is_multisampled};
+ghost use Rattle.layer_expressions.specs.Images.{image_of, comparison_of, is_source, is_source_at, is_resource, has_dimension, is_float_coordinate, is_f32, is_f32_scalar, is_integer_coordinate, is_offset, is_i32, is_integer_scalar, has_levels, is_multisampled};
 
 use ir_arena::handle::Handle;
 use ir_arena::tag;
@@ -56,38 +56,7 @@ fn is_source(expression: &Expression) -> bool
 {
     match expression {
         Expression::GlobalVariable(_) | Expression::FunctionArgument(_) => true,
-        Expression::Literal(_)
-        | Expression::Constant(_)
-        | Expression::Override(_)
-        | Expression::ZeroValue(_)
-        | Expression::Compose { .. }
-        | Expression::Access { .. }
-        | Expression::AccessIndex { .. }
-        | Expression::LocalVariable(_)
-        | Expression::Load { .. }
-        | Expression::CallResult(_)
-        | Expression::AtomicResult { .. }
-        | Expression::WorkGroupUniformLoadResult { .. }
-        | Expression::RayQueryProceedResult
-        | Expression::SubgroupBallotResult
-        | Expression::SubgroupOperationResult { .. }
-        | Expression::Splat { .. }
-        | Expression::Swizzle { .. }
-        | Expression::ImageSample { .. }
-        | Expression::ImageLoad { .. }
-        | Expression::ImageQuery { .. }
-        | Expression::Unary { .. }
-        | Expression::Binary { .. }
-        | Expression::Select { .. }
-        | Expression::Derivative { .. }
-        | Expression::Relational { .. }
-        | Expression::Math { .. }
-        | Expression::As { .. }
-        | Expression::ArrayLength { .. }
-        | Expression::RayQueryGetIntersection { .. }
-        | Expression::RayQueryVertexPositions { .. }
-        | Expression::CooperativeLoad { .. }
-        | Expression::CooperativeMultiplyAdd { .. } => false,
+        _ => false,
     }
 }
 
@@ -101,53 +70,12 @@ fn is_source_at(expressions: &[Expression], handle: Handle<tag::Expression>) -> 
     }
 }
 
-/// What an expression is an item of.
-fn base_of(expression: &Expression) -> Option<Handle<tag::Expression>>
-    ensures { result ≡ base_of expression.now }
-{
-    match expression {
-        Expression::Access { base, .. } | Expression::AccessIndex { base, .. } => Some(*base),
-        Expression::Literal(_)
-        | Expression::Constant(_)
-        | Expression::Override(_)
-        | Expression::ZeroValue(_)
-        | Expression::Compose { .. }
-        | Expression::FunctionArgument(_)
-        | Expression::GlobalVariable(_)
-        | Expression::LocalVariable(_)
-        | Expression::Load { .. }
-        | Expression::CallResult(_)
-        | Expression::AtomicResult { .. }
-        | Expression::WorkGroupUniformLoadResult { .. }
-        | Expression::RayQueryProceedResult
-        | Expression::SubgroupBallotResult
-        | Expression::SubgroupOperationResult { .. }
-        | Expression::Splat { .. }
-        | Expression::Swizzle { .. }
-        | Expression::ImageSample { .. }
-        | Expression::ImageLoad { .. }
-        | Expression::ImageQuery { .. }
-        | Expression::Unary { .. }
-        | Expression::Binary { .. }
-        | Expression::Select { .. }
-        | Expression::Derivative { .. }
-        | Expression::Relational { .. }
-        | Expression::Math { .. }
-        | Expression::As { .. }
-        | Expression::ArrayLength { .. }
-        | Expression::RayQueryGetIntersection { .. }
-        | Expression::RayQueryVertexPositions { .. }
-        | Expression::CooperativeLoad { .. }
-        | Expression::CooperativeMultiplyAdd { .. } => None,
-    }
-}
-
 /// Whether an expression is where an image or a sampler comes from: a global, an argument, or an item of one.
 pub(crate) fn is_resource(expressions: &[Expression], handle: Handle<tag::Expression>) -> bool
     ensures { result ≡ is_resource expressions.now handle }
 {
     match expressions.get(handle.index()) {
-        Some(expression) => match base_of(expression) {
+        Some(expression) => match expression.access_base() {
             Some(base) => is_source_at(expressions, base),
             None => is_source(expression),
         },

@@ -7,10 +7,10 @@ mod images;
 mod loading;
 mod math;
 pub mod named;
-pub mod operands;
+mod operands;
 mod operators;
 mod others;
-pub mod rules;
+mod rules;
 mod sampling;
 pub mod types;
 

@@ -6,10 +6,10 @@ ghost use Rattle.layer_expressions.specs.OperandTypes.{type_of_operand, shape_of
 
 use ir_arena::handle::Handle;
 use ir_arena::tag;
+use ir_types::type_methods::inner_at;
 use ir_types::types::{Type, TypeInner};
 use ir_types::typifier::TypeResolution;
 use layer_shapes::shapes::{Shape, shape_of};
-use layer_types::sizes::inner_at;
 
 /// The shapes of one to four operands, in order.
 #[derive(Clone, Copy)]

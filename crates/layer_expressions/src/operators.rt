@@ -9,7 +9,7 @@ use layer_forms::{
     BinaryOperator, Cast, RelationalFunction, Swizzle, SwizzleComponent, UnaryOperator,
 };
 use layer_shapes::products::{number_of_two, own_of, product_of};
-use layer_shapes::shapes::{Shape, is_bool, is_float, is_integer, is_same_scalar, is_signed};
+use layer_shapes::shapes::{Shape, is_bool, is_float, is_integer, is_signed};
 use layer_types::leaves::{is_known, is_number};
 
 /// A splat of this size.

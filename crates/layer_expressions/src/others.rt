@@ -9,9 +9,9 @@ use crate::rules::Rule;
 use ir_arena::handle::Handle;
 use ir_arena::tag;
 use ir_leaves::scalars::Scalar;
+use ir_types::type_methods::inner_at;
 use ir_types::types::{ArraySize, Type, TypeInner};
 use ir_types::typifier::TypeResolution;
-use layer_types::sizes::inner_at;
 
 /// Whether a type is an array of dynamic size.
 fn is_dynamic(inner: &TypeInner) -> bool

@@ -2,11 +2,11 @@
 //! Part of `naga_layers`; no promise to users.
 #![tactic(auto)]
 
-pub mod casts;
-pub mod images;
-pub mod math;
-pub mod operators;
-pub mod vectors;
+mod casts;
+mod images;
+mod math;
+mod operators;
+mod vectors;
 
 pub use crate::casts::Cast;
 pub use crate::images::{ImageQuery, LevelKind, Loading, SampleForm};

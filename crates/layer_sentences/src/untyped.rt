@@ -9,6 +9,7 @@ use ir_module::expressions::Expression;
 use ir_module::functions::Function;
 use ir_module::module::Module;
 use ir_module::operands::{operand, operand_count};
+use ir_types::type_methods::inner_at;
 use ir_types::types::TypeInner;
 use ir_types::typifier::TypeResolution;
 use layer_expressions::{Rule, types_of};
@@ -47,16 +48,13 @@ fn types_before(
 }
 
 /// The type of the expression with a handle.
-fn inner_at<'a>(
+fn operand_type<'a>(
     module: &'a Module,
     types: &'a [TypeResolution],
     handle: Handle<tag::Expression>,
 ) -> Option<&'a TypeInner> {
     match types.get(handle.index()) {
-        Some(TypeResolution::Handle(ty)) => match module.types.as_slice().get(ty.index()) {
-            Some(ty) => Some(&ty.inner),
-            None => None,
-        },
+        Some(TypeResolution::Handle(ty)) => inner_at(module.types.as_slice(), *ty),
         Some(TypeResolution::Value(inner)) => Some(inner),
         None => None,
     }
@@ -72,7 +70,7 @@ fn write_operand<W: fmt::Write>(
     let Some(handle) = handle else {
         return Ok(());
     };
-    match inner_at(module, types, handle) {
+    match operand_type(module, types, handle) {
         Some(inner) => write_type(writer, &module.types, inner),
         None => writer.write_str("an expression that doesn't come before it"),
     }
@@ -133,8 +131,8 @@ fn write_operator<W: fmt::Write>(
         return Ok(false);
     };
     let (left, right) = (
-        inner_at(module, types, left),
-        inner_at(module, types, right),
+        operand_type(module, types, left),
+        operand_type(module, types, right),
     );
     match (left, right) {
         (Some(left), Some(right)) => {

@@ -5,5 +5,3 @@
 pub mod products;
 pub mod resolutions;
 pub mod shapes;
-
-pub use crate::shapes::Shape;

@@ -7,8 +7,8 @@ use Rattle.ir_types.specs.declared.types.ArraySize.{ArraySize}
 use Rattle.ir_types.specs.declared.types.ArraySize.TheVariants as size
 use Rattle.ir_types.specs.declared.type_info.Disalignment.{Disalignment}
 use Rattle.ir_types.specs.declared.type_info.TypeInfo.{TypeInfo}
-use Rattle.layer_types.specs.declared.parts.Part.{Part}
-use Rattle.layer_types.specs.LeafInfos.{all_of}
+use Rattle.layer_types.specs.declared.parts.DataPart.{DataPart}
+use Rattle.ir_types.specs.TypeInfos.{all_of}
 use Rattle.layer_types.specs.Parts.{bad_stride}
 use Rattle.layer_types.specs.Sizes.{is_aligned}
 
@@ -36,7 +36,7 @@ uniform_array own (Err bad) stride = Err bad
 uniform_array own (Ok alignment) stride = if stride % 16 == 0 then Ok (max alignment 16) else Err (own, bad_stride)
 
 -- an array of what has a size; it is aligned as its items are, and an immediate where they are
-abbrev pub array_info : ℕ → Part → ArraySize → ℕ → Option TypeInfo
+abbrev pub array_info : ℕ → DataPart → ArraySize → ℕ → Option TypeInfo
 array_info own part size stride =
     if contains part.info.flags.0 SIZED.0 && (fits_items part.size part.alignment stride && fits_count size stride)
     then Some (record {

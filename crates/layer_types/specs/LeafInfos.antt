@@ -1,7 +1,6 @@
 -- Infos of the types that have no parts: what they can be used for, and their alignment in bytes.
-use Rattle.std.specs.Int.RustNames.{bit_or}
-use Rattle.std.specs.Prelude.{ℕ, Bool, true, false, ◌*◌, ◌==◌, ◌||◌, List, [], ◌∷◌, Option, None, Some, Result, Ok, Err, if◌then◌else◌}
-use Rattle.ir_flags.specs.Bits.{NO_TYPE_FLAG, ALL_TYPE_FLAGS, DATA, SIZED, COPY, HOST_SHAREABLE, CREATION_RESOLVED, ARGUMENT, CONSTRUCTIBLE}
+use Rattle.std.specs.Prelude.{ℕ, Bool, true, false, ◌*◌, ◌==◌, ◌||◌, [], ◌∷◌, Option, None, Some, Result, Ok, Err, if◌then◌else◌}
+use Rattle.ir_flags.specs.Bits.{ALL_TYPE_FLAGS, DATA, SIZED, COPY, HOST_SHAREABLE, CREATION_RESOLVED, ARGUMENT, CONSTRUCTIBLE}
 use Rattle.ir_flags.specs.declared.valid.TypeFlags.{TypeFlags}
 use Rattle.ir_types.specs.declared.types.AddressSpace.{AddressSpace}
 use Rattle.ir_types.specs.declared.types.AddressSpace.TheVariants as space
@@ -14,6 +13,7 @@ use Rattle.ir_types.specs.declared.types.TypeInner.{TypeInner}
 use Rattle.ir_types.specs.declared.types.TypeInner.TheVariants as inner
 use Rattle.ir_types.specs.declared.type_info.ImmediateError.{ImmediateError}
 use Rattle.ir_types.specs.declared.type_info.TypeInfo.{TypeInfo}
+use Rattle.ir_types.specs.TypeInfos.{all_of}
 use Rattle.layer_types.specs.Sizes.{aligned_components_of}
 
 -- the widths of each kind: of a bool 1, of integers 4 and 8, of floats 2, 4 and 8; of the abstract ones none
@@ -53,11 +53,6 @@ is_number kind.Uint = true
 is_number kind.Float = true
 is_number _ = false
 
--- all of these flags
-abbrev pub all_of : List TypeFlags → TypeFlags
-all_of [] = NO_TYPE_FLAG
-all_of (flag ∷ flags) = record { 0 = bit_or flag.0 (all_of flags).0 }
-
 -- what values can be used for that are neither shared with the host nor between stages
 abbrev pub VALUE : TypeFlags
 VALUE = all_of (DATA ∷ SIZED ∷ COPY ∷ ARGUMENT ∷ CONSTRUCTIBLE ∷ CREATION_RESOLVED ∷ [])
@@ -65,8 +60,8 @@ VALUE = all_of (DATA ∷ SIZED ∷ COPY ∷ ARGUMENT ∷ CONSTRUCTIBLE ∷ CREAT
 abbrev pub MATRIX : TypeFlags
 MATRIX = all_of (VALUE ∷ HOST_SHAREABLE ∷ [])
 
-abbrev pub ATOMIC : TypeFlags
-ATOMIC = all_of (DATA ∷ SIZED ∷ HOST_SHAREABLE ∷ CREATION_RESOLVED ∷ [])
+abbrev pub ATOMIC_FLAGS : TypeFlags
+ATOMIC_FLAGS = all_of (DATA ∷ SIZED ∷ HOST_SHAREABLE ∷ CREATION_RESOLVED ∷ [])
 
 abbrev pub POINTER : TypeFlags
 POINTER = all_of (SIZED ∷ COPY ∷ CREATION_RESOLVED ∷ [])
@@ -127,7 +122,7 @@ leaf_info (inner.Scalar s) = known_info (is_known s) (of_scalar s (value_flags s
 leaf_info (inner.Vector n s) = known_info (is_known s) (of_scalar s (value_flags s.kind) (aligned_components_of n * s.width))
 leaf_info (inner.Matrix c r s) = known_info (is_float s) (of_scalar s MATRIX (aligned_components_of r * s.width))
 leaf_info (inner.CooperativeMatrix s d) = known_info (is_float s) (of_scalar s VALUE s.width)
-leaf_info (inner.Atomic s) = known_info (is_atomic s) (info ATOMIC s.width)
+leaf_info (inner.Atomic s) = known_info (is_atomic s) (info ATOMIC_FLAGS s.width)
 leaf_info (inner.ValuePointer n s p) = known_info (is_known s) (info (pointer_flags p true) 1)
 leaf_info (inner.Image dim arrayed class) = image_info class
 leaf_info (inner.Sampler comparison) = Some (info OPAQUE 1)

@@ -11,9 +11,10 @@ use Rattle.ir_types.specs.declared.types.Type.{«Type» as IrType}
 use Rattle.ir_types.specs.declared.type_info.Disalignment.{Disalignment}
 use Rattle.ir_types.specs.declared.type_info.ImmediateError.{ImmediateError}
 use Rattle.ir_types.specs.declared.type_info.TypeInfo.{TypeInfo}
-use Rattle.layer_types.specs.declared.parts.Part.{Part}
+use Rattle.ir_types.specs.TypeInfos.{all_of}
+use Rattle.layer_types.specs.declared.parts.DataPart.{DataPart}
 use Rattle.layer_types.specs.declared.structs.Laid.{Laid}
-use Rattle.layer_types.specs.LeafInfos.{all_of, VALUE}
+use Rattle.layer_types.specs.LeafInfos.{VALUE}
 use Rattle.layer_types.specs.Parts.{bad_offset, too_close, part_of}
 use Rattle.layer_types.specs.Sizes.{is_aligned}
 
@@ -31,11 +32,11 @@ begun =
     }
 
 -- a member has a size, or takes what its buffer holds
-abbrev pub has_extent : Part → Bool
+abbrev pub has_extent : DataPart → Bool
 has_extent part = is_some part.size || not (contains part.info.flags.0 SIZED.0)
 
 -- a member lies behind those before it, of which none is without a size, and is aligned
-abbrev pub fits_behind : Laid → Part → ℕ → Bool
+abbrev pub fits_behind : Laid → DataPart → ℕ → Bool
 fits_behind laid part offset =
     not laid.is_open && (nat_le laid.end offset && (is_aligned part.alignment offset && has_extent part))
 
@@ -53,13 +54,13 @@ first_error (Ok fine) second = second
 first_error (Err bad) second = Err bad
 
 -- where the next member may begin in a uniform buffer: there a struct takes a multiple of 16 bytes
-abbrev pub uniform_end : Part → ℕ → ℕ
+abbrev pub uniform_end : DataPart → ℕ → ℕ
 uniform_end part offset =
     let size = unwrap_or part.size 0 in
     if part.is_struct then offset + (size + 15) / 16 * 16 else offset + size
 
 -- after one more member, which fits: the struct can be used for what all members can
-abbrev pub with_member : ℕ → Laid → Part → ℕ → Laid
+abbrev pub with_member : ℕ → Laid → DataPart → ℕ → Laid
 with_member own laid part offset =
     record {
       end = offset + unwrap_or part.size 0;
@@ -72,7 +73,7 @@ with_member own laid part offset =
     }
 
 -- after one more member, where it fits
-abbrev pub laid_with : ℕ → Laid → Option Part → ℕ → Option Laid
+abbrev pub laid_with : ℕ → Laid → Option DataPart → ℕ → Option Laid
 laid_with own laid None offset = None
 laid_with own laid (Some part) offset = if fits_behind laid part offset then Some (with_member own laid part offset) else None
 

@@ -3,7 +3,7 @@
 ghost use Rattle.std.specs.Prelude.{◌≡◌};
 ghost use Rattle.layer_types.specs.Arrays.{kept_flags, fits_count, fits_items, uniform_array, array_info};
 
-use crate::parts::{BAD_STRIDE, Part};
+use crate::parts::{BAD_STRIDE, DataPart};
 use crate::sizes::is_aligned;
 use bitflags::Flags;
 use ir_arena::handle::Handle;
@@ -41,7 +41,7 @@ fn fits_count(size: &ArraySize, stride: u32) -> bool
 }
 
 /// Whether items lie apart and aligned.
-fn fits_items(part: &Part, stride: u32) -> bool
+fn fits_items(part: &DataPart, stride: u32) -> bool
     ensures { result ≡ fits_items part.now.size part.now.alignment stride }
 {
     match part.size {
@@ -73,7 +73,7 @@ fn uniform_array(
 /// The info of an array; `None` where it isn't well formed.
 pub(crate) fn array_info(
     own: Handle<tag::Type>,
-    part: &Part,
+    part: &DataPart,
     size: &ArraySize,
     stride: u32,
 ) -> Option<TypeInfo>

@@ -14,7 +14,7 @@ const VALUE: TypeFlags = TypeFlags(0xe7);
 /// These and HOST_SHAREABLE.
 const MATRIX: TypeFlags = TypeFlags(0xf7);
 /// DATA, SIZED, HOST_SHAREABLE, CREATION_RESOLVED.
-const ATOMIC: TypeFlags = TypeFlags(0x33);
+const ATOMIC_FLAGS: TypeFlags = TypeFlags(0x33);
 /// SIZED, COPY, CREATION_RESOLVED.
 const POINTER: TypeFlags = TypeFlags(0x26);
 /// These and ARGUMENT.
@@ -176,7 +176,10 @@ pub(crate) fn leaf_info(inner: &TypeInner) -> Option<TypeInfo>
             known_info(is_float(*scalar), of_scalar(*scalar, VALUE, alignment))
         }
         TypeInner::Atomic(scalar) => {
-            known_info(is_atomic(*scalar), info(ATOMIC, u32::from(scalar.width)))
+            known_info(
+                is_atomic(*scalar),
+                info(ATOMIC_FLAGS, u32::from(scalar.width)),
+            )
         }
         TypeInner::ValuePointer { scalar, space, .. } => {
             known_info(is_known(*scalar), info(pointer_flags(*space, true), 1))

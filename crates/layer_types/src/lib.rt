@@ -3,7 +3,7 @@
 #![tactic(auto)]
 
 mod arrays;
-pub mod infos;
+mod infos;
 pub mod leaves;
 mod parts;
 pub mod sizes;

@@ -2,13 +2,14 @@
 
 ghost use Rattle.std.specs.Prelude.{◌≡◌, slice_get};
 ghost use Rattle.ir_types.specs.Types.{inner_at};
-ghost use Rattle.layer_types.specs.Parts.{is_struct, data_part, part_of};
+ghost use Rattle.layer_types.specs.Parts.{data_part, part_of};
 
-use crate::sizes::{inner_at, inner_size};
+use crate::sizes::inner_size;
 use ir_arena::handle::Handle;
 use ir_arena::tag;
 use ir_flags::valid::TypeFlags;
 use ir_types::type_info::{Disalignment, TypeInfo};
+use ir_types::type_methods::{inner_at, is_struct};
 use ir_types::types::{Type, TypeInner};
 
 /// The type isn't well formed.
@@ -22,7 +23,7 @@ pub(crate) const TOO_CLOSE: Disalignment = Disalignment(3);
 
 /// A type of data that an array or a struct holds.
 #[derive(Clone, Copy)]
-pub(crate) struct Part {
+pub(crate) struct DataPart {
     pub info: TypeInfo,
     /// In bytes.
     pub alignment: u32,
@@ -32,7 +33,11 @@ pub(crate) struct Part {
 }
 
 /// The type with a handle, where it is one of data that stands before and is well formed.
-pub(crate) fn part_at(types: &[Type], earlier: &[TypeInfo], ty: Handle<tag::Type>) -> Option<Part>
+pub(crate) fn part_at(
+    types: &[Type],
+    earlier: &[TypeInfo],
+    ty: Handle<tag::Type>,
+) -> Option<DataPart>
     ensures { result ≡ part_of (slice_get earlier.now ty) (inner_at types.now ty) }
 {
     let inner = inner_at(types, ty)?;
@@ -43,30 +48,20 @@ pub(crate) fn part_at(types: &[Type], earlier: &[TypeInfo], ty: Handle<tag::Type
 }
 
 /// A type, where it is one of data and well formed.
-fn data_part(info: &TypeInfo, inner: &TypeInner) -> Option<Part>
+fn data_part(info: &TypeInfo, inner: &TypeInner) -> Option<DataPart>
     ensures { result ≡ data_part info.now.storage_layout info.now inner.now }
 {
     let Ok(alignment) = info.storage_layout else {
         return None;
     };
     if info.flags.contains(TypeFlags::DATA) {
-        Some(Part {
+        Some(DataPart {
             info: *info,
             alignment,
             size: inner_size(inner),
-            is_struct: is_struct(inner),
+            is_struct: is_struct(Some(inner)),
         })
     } else {
         None
-    }
-}
-
-/// Whether it is a struct.
-fn is_struct(inner: &TypeInner) -> bool
-    ensures { result ≡ is_struct inner.now }
-{
-    match inner {
-        TypeInner::Struct { .. } => true,
-        _ => false,
     }
 }

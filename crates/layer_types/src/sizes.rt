@@ -1,24 +1,13 @@
 //! Sizes of types in bytes.
 
 ghost use Rattle.std.specs.Prelude.{◌≡◌};
-ghost use Rattle.std.specs.Option.{option_copied};
-ghost use Rattle.ir_types.specs.Types.{inner_at};
 ghost use Rattle.layer_types.specs.Sizes.{components_of, aligned_components_of, size_of, size_at, is_aligned};
 
 use ir_arena::handle::Handle;
 use ir_arena::tag;
 use ir_leaves::scalars::VectorSize;
+use ir_types::type_methods::inner_at;
 use ir_types::types::{ArraySize, Type, TypeInner};
-
-/// The type with a handle, where it is there.
-pub fn inner_at(types: &[Type], ty: Handle<tag::Type>) -> Option<&TypeInner>
-    ensures { option_copied result ≡ inner_at types.now ty }
-{
-    match types.get(ty.index()) {
-        Some(ty) => Some(&ty.inner),
-        None => None,
-    }
-}
 
 /// The size of the type with a handle, in bytes, where it is known before the pipeline is made and fits 32 bits.
 pub fn size_of(types: &[Type], ty: Handle<tag::Type>) -> Option<u32>

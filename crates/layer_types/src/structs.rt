@@ -3,7 +3,7 @@
 ghost use Rattle.std.specs.Prelude.{◌≡◌, Some};
 ghost use Rattle.layer_types.specs.Structs.{are_sources, begun, is_source, shared_as, has_extent, fits_behind, uniform_member, first_error, uniform_end, with_member, laid_with, laid_from, laid_info, struct_info};
 
-use crate::parts::{BAD_OFFSET, Part, TOO_CLOSE, part_at};
+use crate::parts::{BAD_OFFSET, DataPart, TOO_CLOSE, part_at};
 use crate::sizes::is_aligned;
 use bitflags::Flags;
 use ir_arena::handle::Handle;
@@ -46,14 +46,14 @@ fn begun() -> Laid
 }
 
 /// Whether a member has a size, or takes what its buffer holds.
-fn has_extent(part: &Part) -> bool
+fn has_extent(part: &DataPart) -> bool
     ensures { result ≡ has_extent part.now }
 {
     part.size.is_some() || !part.info.flags.contains(TypeFlags::SIZED)
 }
 
 /// Whether a member lies behind those before it.
-fn fits_behind(laid: &Laid, part: &Part, offset: u32) -> bool
+fn fits_behind(laid: &Laid, part: &DataPart, offset: u32) -> bool
     ensures { result ≡ fits_behind laid.now part.now offset }
 {
     if laid.is_open {
@@ -105,7 +105,7 @@ fn first_error(
 }
 
 /// Where the next member may begin in a uniform buffer: what a struct takes is a multiple of 16 bytes.
-fn uniform_end(part: &Part, offset: u32) -> u64
+fn uniform_end(part: &DataPart, offset: u32) -> u64
     ensures { result ≡ uniform_end part.now offset }
 {
     let size = u64::from(part.size.unwrap_or(0));
@@ -117,7 +117,7 @@ fn uniform_end(part: &Part, offset: u32) -> u64
 }
 
 /// After one more member, which fits.
-fn with_member(own: Handle<tag::Type>, laid: &Laid, part: &Part, offset: u32) -> Laid
+fn with_member(own: Handle<tag::Type>, laid: &Laid, part: &DataPart, offset: u32) -> Laid
     ensures { result ≡ with_member own laid.now part.now offset }
 {
     let size = part.size.unwrap_or(0);
@@ -133,7 +133,12 @@ fn with_member(own: Handle<tag::Type>, laid: &Laid, part: &Part, offset: u32) ->
 }
 
 /// After one more member, where it fits.
-fn laid_with(own: Handle<tag::Type>, laid: &Laid, part: Option<Part>, offset: u32) -> Option<Laid>
+fn laid_with(
+    own: Handle<tag::Type>,
+    laid: &Laid,
+    part: Option<DataPart>,
+    offset: u32,
+) -> Option<Laid>
     ensures { result ≡ laid_with own laid.now part offset }
 {
     match part {

@@ -12,37 +12,7 @@ abbrev pub root_of : List (Option ℕ) → Expression → Option ℕ
 root_of earlier (e.GlobalVariable g) = Some g
 root_of earlier (e.Access base index) = root_at earlier base
 root_of earlier (e.AccessIndex base k) = root_at earlier base
-root_of earlier (e.Literal l) = None
-root_of earlier (e.Constant h) = None
-root_of earlier (e.Override h) = None
-root_of earlier (e.ZeroValue t) = None
-root_of earlier (e.Compose t hs) = None
-root_of earlier (e.FunctionArgument n) = None
-root_of earlier (e.LocalVariable h) = None
-root_of earlier (e.Load pointer) = None
-root_of earlier (e.CallResult f) = None
-root_of earlier (e.AtomicResult t c) = None
-root_of earlier (e.WorkGroupUniformLoadResult t) = None
-root_of earlier e.RayQueryProceedResult = None
-root_of earlier e.SubgroupBallotResult = None
-root_of earlier (e.SubgroupOperationResult t) = None
-root_of earlier (e.Splat d hs) = None
-root_of earlier (e.Swizzle d hs) = None
-root_of earlier (e.ImageSample d hs) = None
-root_of earlier (e.ImageLoad d hs) = None
-root_of earlier (e.ImageQuery d hs) = None
-root_of earlier (e.Unary d hs) = None
-root_of earlier (e.Binary d hs) = None
-root_of earlier (e.Select d hs) = None
-root_of earlier (e.Derivative d hs) = None
-root_of earlier (e.Relational d hs) = None
-root_of earlier (e.Math d hs) = None
-root_of earlier (e.As d hs) = None
-root_of earlier (e.ArrayLength d hs) = None
-root_of earlier (e.RayQueryGetIntersection d hs) = None
-root_of earlier (e.RayQueryVertexPositions d hs) = None
-root_of earlier (e.CooperativeLoad d hs) = None
-root_of earlier (e.CooperativeMultiplyAdd d hs) = None
+root_of earlier _ = None
 
 -- the roots of these expressions behind those of the ones before them
 unfoldable pub roots_from : List (Option ℕ) → List Expression → List (Option ℕ)

@@ -6,5 +6,3 @@ mod joins;
 mod roots;
 pub mod uses;
 mod walk;
-
-pub use crate::uses::uses_of;

@@ -18,21 +18,21 @@ abbrev pub laid : List ℕ → List ℕ → List ℕ
 laid text out = take (length out) text ++ drop (length text) out
 
 -- The status is that of this verdict, the length is that of its text, and this text was laid into the caller's bytes.
-abbrev pub Tells : Form → Option Id → judge.Verdict → Option Misfit → Answer → List ℕ → List ℕ → Type 0
-Tells form id v misfit answer old new =
+abbrev pub Reports : Form → Option Id → judge.Verdict → Option Misfit → Answer → List ℕ → List ℕ → Type 0
+Reports form id v misfit answer old new =
     (text : List ℕ) × IsTextOf form id v misfit text × (answer.status ≡ status_of v) × (answer.length ≡ length text)
     × (new ≡ laid text old)
 
 -- This verdict is reported, or out of memory.
-abbrev pub IsTold : Form → Option Id → judge.Verdict → Option Misfit → Answer → List ℕ → List ℕ → Type 0
-IsTold form id v misfit answer old new =
-    Tells form id v misfit answer old new ⊎ Tells form None (verdict.Refused fault.Memory) None answer old new
+abbrev pub IsReported : Form → Option Id → judge.Verdict → Option Misfit → Answer → List ℕ → List ℕ → Type 0
+IsReported form id v misfit answer old new =
+    Reports form id v misfit answer old new ⊎ Reports form None (verdict.Refused fault.Memory) None answer old new
 
 -- A verdict of the document is reported. That there was no memory is a verdict of each document (`Judges`), and needs no id.
 abbrev pub IsAnswered : Form → List ℕ → Answer → List ℕ → List ℕ → Type 0
 IsAnswered form document answer old new =
     (id : Option Id) × (v : judge.Verdict) × (misfit : Option Misfit) × Judges document v × HasMisfit document v misfit
-    × HasItsId document v id × Tells form id v misfit answer old new
+    × HasItsId document v id × Reports form id v misfit answer old new
 
 -- the version 0.1.0, in ASCII
 abbrev pub version_text : List ℕ

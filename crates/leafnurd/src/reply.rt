@@ -1,7 +1,7 @@
 //! What the exports answer, and how a text is written into the caller's memory.
 
 ghost use Rattle.std.specs.Prelude.{◌≡◌, length};
-ghost use Rattle.leafnurd.specs.Replies.{IsAnswered, IsTold, laid};
+ghost use Rattle.leafnurd.specs.Replies.{IsAnswered, IsReported, laid};
 
 use json_answers::form::{memory_text, text_of};
 use json_answers::verdict::drop_examined;
@@ -28,7 +28,7 @@ pub(crate) fn lay(text: &[u8], out: &mut [u8])
 }
 
 /// Writes the text, and answers its length with this status.
-fn told(status: u8, text: &[u8], out: &mut [u8]) -> Answer
+fn answer_with(status: u8, text: &[u8], out: &mut [u8]) -> Answer
     ensures status { result.status ≡ status }
     ensures length { result.length ≡ length text.now }
     ensures laid { out.new ≡ laid text.now out.old }
@@ -41,12 +41,12 @@ fn told(status: u8, text: &[u8], out: &mut [u8]) -> Answer
 }
 
 /// Writes the verdict, and answers its status. If there is no memory for its text, both are those of out of memory.
-fn tell(alloc: Global, examined: &Examined, out: &mut [u8], form: Form) -> Answer
-    ensures { IsTold form examined.now.id examined.now.verdict examined.now.misfit result out.old out.new }
+fn report(alloc: Global, examined: &Examined, out: &mut [u8], form: Form) -> Answer
+    ensures { IsReported form examined.now.id examined.now.verdict examined.now.misfit result out.old out.new }
 {
     match text_of(alloc, examined, form) {
-        Ok(text) => told(examined.verdict.status(), text.as_str().as_bytes(), out),
-        Err(AllocError) => told(3, memory_text(form), out),
+        Ok(text) => answer_with(examined.verdict.status(), text.as_str().as_bytes(), out),
+        Err(AllocError) => answer_with(3, memory_text(form), out),
     }
 }
 
@@ -55,7 +55,7 @@ pub(crate) fn judge_into(alloc: Global, text: &[u8], out: &mut [u8], form: Form)
     ensures { IsAnswered form text.now result out.old out.new }
 {
     let examined = examine(alloc, text);
-    let answer = tell(alloc, &examined, out, form);
+    let answer = report(alloc, &examined, out, form);
     drop_examined(examined);
     answer
 }

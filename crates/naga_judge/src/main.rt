@@ -48,15 +48,15 @@ fn answer_words(rt: &HostRuntime, words: &[String]) -> io::Result<u8> {
             answered
         }
         Err(error) => {
-            let told = tell(rt, &error);
+            let answered = report(rt, &error);
             drop(error);
-            told
+            answered
         }
     }
 }
 
 /// Writes what is wrong with the words, or the help or the version that they ask for, and answers the exit status.
-fn tell(rt: &HostRuntime, error: &Error) -> io::Result<u8> {
+fn report(rt: &HostRuntime, error: &Error) -> io::Result<u8> {
     error.print(rt)?;
     if error.kind() == ErrorKind::OutOfMemory {
         Ok(MEMORY)

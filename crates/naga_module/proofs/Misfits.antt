@@ -1,6 +1,7 @@
 -- A module has no misfit exactly where all tests of conditions hold.
 use Rattle.std.proofs.Common.{◌≡◌, ◌↔◌, ◌<◌, ℕ, true, List, ◌++◌, not, ◌||◌, All, Option, Some, None, Result, Ok, Err, length, refl, sym, ◌∙◌, eqb-true, eq-eqb}
 use Rattle.std.specs.Prelude.{IfErr, IsSome, is_some}
+use Rattle.ir_types.specs.SpaceTests.{is_task_payload}
 use Rattle.ir_types.specs.declared.types.AddressSpace.{AddressSpace}
 use Rattle.ir_types.specs.declared.types.AddressSpace.TheVariants as space
 use Rattle.ir_types.specs.declared.typifier.TypeResolution.{TypeResolution}
@@ -32,7 +33,7 @@ use Rattle.ir_fits.proofs.ExactFunctions.{function_exact}
 use Rattle.ir_facts.specs.Meaning.{Meaning}
 use Rattle.check_entry.specs.InterfacePoints.{HasPayloadSizes}
 use Rattle.check_entry.specs.GivenInfos.{AreInfosOf, NamesTypes}
-use Rattle.naga_module.specs.Misfits.{layout_points, info_points, one_info_each, infos_points, module_function_points, entry_point_points, is_task_payload, size_points, module_points, AllFits}
+use Rattle.naga_module.specs.Misfits.{layout_points, info_points, one_info_each, infos_points, module_function_points, entry_point_points, size_points, module_points, AllFits}
 use Rattle.naga_module.specs.ModuleJudgement.{first_infos}
 
 layout_exact : (at : Place) (n : ℕ) (r : Result ℕ (ℕ × Disalignment)) → Exact (layout_points at n r) (IfErr r (λ e. e.0 < n))

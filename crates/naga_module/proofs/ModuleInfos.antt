@@ -22,23 +22,23 @@ use Rattle.check_scope.specs.declared.trace.TraceState.{TraceState}
 use Rattle.check_laws.proofs.EntryBuiltIns.{accepted_built_ins}
 use Rattle.check_laws.proofs.EntryFacts.{accepted_position}
 use Rattle.naga_module.specs.ModuleInfos.{infos_before, IsJudgedEntry}
-use Rattle.naga_module.specs.ModuleJudgement.{Answer, Tested, AnswersStep, with_entry, first_infos, IsOfFunction, IsOfEntryPoint, EntriesAnswer, BehindFunctions, FunctionsAnswer, Fits, globals_step}
+use Rattle.naga_module.specs.ModuleJudgement.{ModuleAnswer, Tested, AnswersStep, with_entry, first_infos, IsOfFunction, IsOfEntryPoint, EntriesAnswer, BehindFunctions, FunctionsAnswer, Fits, globals_step}
 use Rattle.naga_module.specs.ModuleLaw.{AcceptedModuleIsJudged}
 use Rattle.check_faults.specs.declared.module.ModuleFault.{ModuleFault}
 use Rattle.check_faults.specs.declared.module.ModuleFault.TheVariants as fault
 
 -- a test that came out well held
-passed : (P : Type 0) (Next : Answer → Type 0) (out : ModuleInfo) → Tested P Next (Ok out) → P × Next (Ok out)
+passed : (P : Type 0) (Next : ModuleAnswer → Type 0) (out : ModuleInfo) → Tested P Next (Ok out) → P × Next (Ok out)
 passed P Next out (inl p) = p
 passed P Next out (inr p) = let no = p.1 in cc
 
 -- a step that came out well found something, and the next came out well
-record Found {A E : Type 0} (r : Result A E) (Next : A → Answer → Type 0) (out : ModuleInfo) : Type 0 where
+record Found {A E : Type 0} (r : Result A E) (Next : A → ModuleAnswer → Type 0) (out : ModuleInfo) : Type 0 where
   value : A
   is : r ≡ Ok value
   next : Next value (Ok out)
 
-found : {A E : Type 0} (r : Result A E) (Makes : E → ModuleFault → Type 0) (Next : A → Answer → Type 0) (out : ModuleInfo) → AnswersStep r Makes Next (Ok out) → Found r Next out
+found : {A E : Type 0} (r : Result A E) (Makes : E → ModuleFault → Type 0) (Next : A → ModuleAnswer → Type 0) (out : ModuleInfo) → AnswersStep r Makes Next (Ok out) → Found r Next out
 found (Ok x) Makes Next out a = record { value = x; is = refl; next = a }
 found (Err e) Makes Next out a = absurd a
 

@@ -10,21 +10,21 @@ use Rattle.ir_types.specs.declared.typifier.TypeResolution.{TypeResolution}
 use Rattle.check_entry.specs.InterfacePoints.{HasPayloadSizes}
 use Rattle.check_entry.specs.GivenInfos.{AreInfosOf}
 use Rattle.check_statement.specs.ValidatorParts.{no_traces}
-use Rattle.check_statement.specs.ValidatorParts.{Parts as Validator}
+use Rattle.check_statement.specs.ValidatorParts.{ValidatorParts as Validator}
 use Rattle.check_scope.specs.declared.trace.TraceState.{TraceState}
 use Rattle.naga_module.specs.CodeModule.{Leads, EntriesStop}
-use Rattle.naga_module.specs.ModuleJudgement.{Answer, AnswersStep, IsOfFunction, globals_step, BehindFunctions, BehindTests, EntriesAnswer, FunctionsAnswer, IsJudgement, IsJudgementOrMemory, first_infos}
+use Rattle.naga_module.specs.ModuleJudgement.{ModuleAnswer, AnswersStep, IsOfFunction, globals_step, BehindFunctions, BehindTests, EntriesAnswer, FunctionsAnswer, IsJudgement, IsJudgementOrMemory, first_infos}
 use Rattle.check_faults.specs.declared.module.ModuleFault.{ModuleFault}
 use Rattle.check_faults.specs.declared.module.ModuleFault.TheVariants as fault
 
 -- where no global is faulty, and the functions lead to these infos and traces
 module _ (below : Meaning) (settings : Settings) (types : List TypeInfo) (m : Module) (trace : TraceState) (infos : ModuleInfo) (passed : globals_step below settings types m infos ≡ Ok tt)
     (left : TraceState) (more : ModuleInfo) (leads : Leads below settings types m trace infos m.functions left more []) where
-  abbrev Parts : Answer → Type 0
+  abbrev Parts : ModuleAnswer → Type 0
   Parts r = BehindTests below settings types m trace infos r
 
   -- what is answered after the functions is answered of all parts
-  entries_decide : (r : Answer) → BehindFunctions below settings types m left more r → Parts r
+  entries_decide : (r : ModuleAnswer) → BehindFunctions below settings types m left more r → Parts r
   unfolding FunctionsAnswer
   entries_decide r a =
       subst (λ o. AnswersStep o (IsOfFunction (λ e. e)) (λ done. FunctionsAnswer below settings types m trace infos m.functions) r) (sym passed) (leads r a)
@@ -46,11 +46,11 @@ module _ {B : Type 0} (meaning : B → Meaning) (m : Module) (below : B) (settin
     (passed : globals_step (meaning v.below) v.settings v.types m infos ≡ Ok tt)
     (w : Validator B) (kept : w ≡ record v { trace = w.trace }) (more : ModuleInfo)
     (leads : Leads (meaning v.below) v.settings v.types m v.trace infos m.functions w.trace more []) where
-  abbrev Judged : Answer → Type 0
+  abbrev Judged : ModuleAnswer → Type 0
   Judged r = IsJudgement (meaning below) settings types m global_types r
 
   -- what is answered of all parts is the judgement of the module
-  all_parts : (r : Answer) → BehindTests (meaning v.below) v.settings v.types m v.trace infos r → Judged r
+  all_parts : (r : ModuleAnswer) → BehindTests (meaning v.below) v.settings v.types m v.trace infos r → Judged r
   all_parts r a =
       let fits = rw (begins, first) at fitting in
       let behind = rw (begins, first) at a in

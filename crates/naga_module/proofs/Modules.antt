@@ -22,14 +22,14 @@ use Rattle.check_statement.specs.FunctionJudgement.{FunctionOutcome, function_ju
 use Rattle.check_faults.specs.declared.entry.EntryPointError.{EntryPointError}
 use Rattle.check_scope.specs.declared.trace.TraceState.{TraceState}
 use Rattle.naga_module.specs.CodeModule.{Leads, Stops, EntriesLead, EntriesStop}
-use Rattle.naga_module.specs.ModuleJudgement.{Answer, AnswersStep, with_entry, IsOfFunction, IsOfEntryPoint, EntriesAnswer, FunctionsAnswer}
+use Rattle.naga_module.specs.ModuleJudgement.{ModuleAnswer, AnswersStep, with_entry, IsOfFunction, IsOfEntryPoint, EntriesAnswer, FunctionsAnswer}
 use Rattle.check_faults.specs.declared.module.ModuleFault.{ModuleFault}
 use Rattle.check_faults.specs.declared.module.ModuleFault.TheVariants as fault
 
 module _ (below : Meaning) (settings : Settings) (types : List TypeInfo) (m : Module) (trace : TraceState) (infos : ModuleInfo) (i : ℕ) (f : Function)
     (at : slice_get m.functions i ≡ Some f) (lt : i < length m.functions) where
   -- the answer about the functions from here on, by that about this one
-  here : (r : Answer) → FunctionsAnswer below settings types m trace infos (f ∷ drop (i + 1) m.functions) r → FunctionsAnswer below settings types m trace infos (drop i m.functions) r
+  here : (r : ModuleAnswer) → FunctionsAnswer below settings types m trace infos (f ∷ drop (i + 1) m.functions) r → FunctionsAnswer below settings types m trace infos (drop i m.functions) r
   here r a =
       let same : drop i m.functions ≡ f ∷ drop (i + 1) m.functions =
       at_drop_more (λ (fs : List Function). fs) m.functions i f lt ∙ ap (λ (g : Function). g ∷ drop (i + 1) m.functions) (get_or_from_slice_get m.functions i f f at) in
@@ -61,7 +61,7 @@ module _ (below : Meaning) (settings : Settings) (types : List TypeInfo) (m : Mo
   abbrev EntryFits : Type 0
   EntryFits = FitsFunction p.function m (length infos.functions) × FitsEntry p m
 
-  entry_here : (r : Answer) → EntriesAnswer below settings types m trace infos (p ∷ drop (i + 1) m.entry_points) r → EntriesAnswer below settings types m trace infos (drop i m.entry_points) r
+  entry_here : (r : ModuleAnswer) → EntriesAnswer below settings types m trace infos (p ∷ drop (i + 1) m.entry_points) r → EntriesAnswer below settings types m trace infos (drop i m.entry_points) r
   entry_here r a =
       let same : drop i m.entry_points ≡ p ∷ drop (i + 1) m.entry_points =
       at_drop_more (λ (ps : List EntryPoint). ps) m.entry_points i p lt ∙ ap (λ (q : EntryPoint). q ∷ drop (i + 1) m.entry_points) (get_or_from_slice_get m.entry_points i p p at) in

@@ -25,12 +25,12 @@ use Rattle.check_scope.specs.declared.trace.TraceState.{TraceState}
 use Rattle.check_statement.specs.FunctionJudgement.{FunctionOutcome, function_judgement}
 use Rattle.check_statement.specs.ValidatorParts.{no_traces}
 use Rattle.naga_module.specs.Misfits.{AllFits}
-use Rattle.naga_module.specs.ModuleJudgement.{Answer, AnswersStep, with_entry, first_infos, IsOfFunction, IsOfEntryPoint, EntriesAnswer, FunctionsAnswer, IsJudgement, points_of_global}
+use Rattle.naga_module.specs.ModuleJudgement.{ModuleAnswer, AnswersStep, with_entry, first_infos, IsOfFunction, IsOfEntryPoint, EntriesAnswer, FunctionsAnswer, IsJudgement, points_of_global}
 use Rattle.check_faults.specs.declared.module.ModuleFault.{ModuleFault}
 use Rattle.check_faults.specs.declared.module.ModuleFault.TheVariants as fault
 
 -- neither a step nor what comes next is NotFit
-step_is_other : {A E : Type 0} (o : Result A E) (Makes : E → ModuleFault → Type 0) (Next : A → Answer → Type 0) →
+step_is_other : {A E : Type 0} (o : Result A E) (Makes : E → ModuleFault → Type 0) (Next : A → ModuleAnswer → Type 0) →
     ((e : E) → Makes e fault.NotFit → ⊥) → ((x : A) → Next x (Err fault.NotFit) → ⊥) → AnswersStep o Makes Next (Err fault.NotFit) → ⊥
 step_is_other (Ok x) Makes Next own next a = next x a
 step_is_other (Err e) Makes Next own next a = own e a
@@ -50,7 +50,7 @@ globals_are_other points k (g ∷ gs) e =
     one_global k (first_fault (points g)) rest (globals_are_other points (suc k) gs) (sym (split ∙ inside) ∙ e)
 
 -- the step of the globals, which is not NotFit
-globals_step_is_other : (told : Option ModuleFault) (Next : Unit {0} → Answer → Type 0) → (told ≡ Some fault.NotFit → ⊥) → ((x : Unit {0}) → Next x (Err fault.NotFit) → ⊥) →
+globals_step_is_other : (told : Option ModuleFault) (Next : Unit {0} → ModuleAnswer → Type 0) → (told ≡ Some fault.NotFit → ⊥) → ((x : Unit {0}) → Next x (Err fault.NotFit) → ⊥) →
     AnswersStep (answer told tt) (IsOfFunction (λ e. e)) Next (Err fault.NotFit) → ⊥
 globals_step_is_other None Next other next a = next tt a
 globals_step_is_other (Some e) Next other next a = other (ap Some (sym a))

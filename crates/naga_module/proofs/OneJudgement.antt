@@ -15,7 +15,7 @@ use Rattle.ir_facts.specs.Meaning.{Meaning}
 use Rattle.check_scope.specs.declared.trace.TraceState.{TraceState}
 use Rattle.check_statement.specs.FunctionJudgement.{FunctionOutcome, function_judgement}
 use Rattle.check_statement.specs.ValidatorParts.{no_traces}
-use Rattle.naga_module.specs.ModuleJudgement.{Answer, Tested, AnswersStep, with_entry, first_infos, IsOfFunction, IsOfEntryPoint, EntriesAnswer, FunctionsAnswer, BehindTests, Fits, globals_step}
+use Rattle.naga_module.specs.ModuleJudgement.{ModuleAnswer, Tested, AnswersStep, with_entry, first_infos, IsOfFunction, IsOfEntryPoint, EntriesAnswer, FunctionsAnswer, BehindTests, Fits, globals_step}
 use Rattle.naga_module.specs.OneJudgement.{IsSameFault, IsSameAnswer, ModuleHasOneJudgement}
 use Rattle.check_faults.specs.declared.module.ModuleFault.{ModuleFault}
 use Rattle.check_faults.specs.declared.module.ModuleFault.TheVariants as fault
@@ -31,19 +31,19 @@ equal_are_same : (a b : ModuleFault) → a ≡ b → IsSameFault a b
 equal_are_same a b e = subst (λ (x : ModuleFault). IsSameFault a x) e (same_as_itself a)
 
 -- two answers that are this one
-both_are : (x r s : Answer) → IsSameAnswer x x → r ≡ x → s ≡ x → IsSameAnswer r s
+both_are : (x r s : ModuleAnswer) → IsSameAnswer x x → r ≡ x → s ≡ x → IsSameAnswer r s
 both_are x r s own a b =
-    subst (λ (y : Answer). IsSameAnswer y s) (sym a) (subst (λ (y : Answer). IsSameAnswer x y) (sym b) own)
+    subst (λ (y : ModuleAnswer). IsSameAnswer y s) (sym a) (subst (λ (y : ModuleAnswer). IsSameAnswer x y) (sym b) own)
 
 -- a test, and a step, where what comes next agrees
-one_tested : (Holds : Type 0) (Next : Answer → Type 0) (r s : Answer) → (Next r → Next s → IsSameAnswer r s) →
+one_tested : (Holds : Type 0) (Next : ModuleAnswer → Type 0) (r s : ModuleAnswer) → (Next r → Next s → IsSameAnswer r s) →
     Tested Holds Next r → Tested Holds Next s → IsSameAnswer r s
 one_tested Holds Next r s next (inl a) (inl b) = next a.1 b.1
 one_tested Holds Next r s next (inl a) (inr b) = absurd (b.0 a.0)
 one_tested Holds Next r s next (inr a) (inl b) = absurd (a.0 b.0)
 one_tested Holds Next r s next (inr a) (inr b) = both_are (Err fault.NotFit) r s refl a.1 b.1
 
-one_step : {A E : Type 0} (o : Result A E) (Makes : E → ModuleFault → Type 0) (Next : A → Answer → Type 0) (r s : Answer) →
+one_step : {A E : Type 0} (o : Result A E) (Makes : E → ModuleFault → Type 0) (Next : A → ModuleAnswer → Type 0) (r s : ModuleAnswer) →
     ((e : E) (a b : ModuleFault) → Makes e a → Makes e b → IsSameFault a b) → ((x : A) → Next x r → Next x s → IsSameAnswer r s) →
     AnswersStep o Makes Next r → AnswersStep o Makes Next s → IsSameAnswer r s
 one_step (Ok x) Makes Next r s faults next a b = next x a b
@@ -66,7 +66,7 @@ of_entries index e (fault.Global h error) b p q = absurd p
 of_entries index e (fault.Function h error) b p q = absurd p
 of_entries index e fault.Memory b p q = absurd p
 
-module _ (below : Meaning) (settings : Settings) (types : List TypeInfo) (m : Module) (r s : Answer) where
+module _ (below : Meaning) (settings : Settings) (types : List TypeInfo) (m : Module) (r s : ModuleAnswer) where
   one_of_entries : (trace : TraceState) (infos : ModuleInfo) (ps : List EntryPoint) →
       EntriesAnswer below settings types m trace infos ps r → EntriesAnswer below settings types m trace infos ps s → IsSameAnswer r s
   unfolding EntriesAnswer

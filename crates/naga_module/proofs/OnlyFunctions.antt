@@ -20,22 +20,22 @@ use Rattle.check_statement.specs.FunctionJudgement.{FunctionOutcome, function_ju
 use Rattle.check_statement.specs.ValidatorParts.{no_traces}
 use Rattle.check_entry.specs.InterfacePoints.{HasPayloadSizes}
 use Rattle.check_scope.specs.declared.trace.TraceState.{TraceState}
-use Rattle.naga_module.specs.ModuleJudgement.{Answer, AnswersStep, IsOfFunction, first_infos, globals_step, points_of_global, EntriesAnswer, FunctionsAnswer}
-use Rattle.naga_module.specs.ModuleLaw.{IsToldOfFunctions, FunctionsAloneAreTold}
+use Rattle.naga_module.specs.ModuleJudgement.{ModuleAnswer, AnswersStep, IsOfFunction, first_infos, globals_step, points_of_global, EntriesAnswer, FunctionsAnswer}
+use Rattle.naga_module.specs.ModuleLaw.{IsReportedOfFunctions, FunctionsAloneAreReported}
 use Rattle.check_faults.specs.declared.module.ModuleFault.{ModuleFault}
 use Rattle.check_faults.specs.declared.module.ModuleFault.TheVariants as fault
 
 -- a step tells the fault of a function, or what the next one tells
-step_tells : {A : Type 0} (o : Result A FunctionError) (handle : ℕ) (Next : A → Answer → Type 0) (told : ModuleFault) →
-    ((x : A) → Next x (Err told) → IsToldOfFunctions told) → AnswersStep o (IsOfFunction (fault.Function handle)) Next (Err told) → IsToldOfFunctions told
+step_tells : {A : Type 0} (o : Result A FunctionError) (handle : ℕ) (Next : A → ModuleAnswer → Type 0) (told : ModuleFault) →
+    ((x : A) → Next x (Err told) → IsReportedOfFunctions told) → AnswersStep o (IsOfFunction (fault.Function handle)) Next (Err told) → IsReportedOfFunctions told
 step_tells (Ok x) handle Next told next a = next x a
-step_tells (Err e) handle Next told next a = subst IsToldOfFunctions (sym a) tt
+step_tells (Err e) handle Next told next a = subst IsReportedOfFunctions (sym a) tt
 
 module _ (below : Meaning) (settings : Settings) (types : List TypeInfo) (m : Module) (told : ModuleFault) (none : m.entry_points ≡ []) (sizes : HasPayloadSizes below m) where
   abbrev AllFit : ℕ → List Function → Type 0
   AllFit k fs = (i : ℕ) (f : Function) → slice_get fs i ≡ Some f → FitsFunction f m (k + i)
 
-  no_entries : (trace : TraceState) (infos : ModuleInfo) (ps : List EntryPoint) → ps ≡ [] → EntriesAnswer below settings types m trace infos ps (Err told) → IsToldOfFunctions told
+  no_entries : (trace : TraceState) (infos : ModuleInfo) (ps : List EntryPoint) → ps ≡ [] → EntriesAnswer below settings types m trace infos ps (Err told) → IsReportedOfFunctions told
   unfolding EntriesAnswer
   no_entries trace infos [] e a = cc
   no_entries trace infos (p ∷ ps) e a = cc
@@ -46,7 +46,7 @@ module _ (below : Meaning) (settings : Settings) (types : List TypeInfo) (m : Mo
   rest_fits : (k : ℕ) (f : Function) (fs : List Function) → AllFit k (f ∷ fs) → AllFit (k + 1) fs
   rest_fits k f fs all i g is = let same : k + suc i ≡ k + 1 + i = omega arith in subst (λ n. FitsFunction g m n) same (all (suc i) g is)
 
-  functions_tell : (trace : TraceState) (infos : ModuleInfo) (fs : List Function) → AllFit (length infos.functions) fs → FunctionsAnswer below settings types m trace infos fs (Err told) → IsToldOfFunctions told
+  functions_tell : (trace : TraceState) (infos : ModuleInfo) (fs : List Function) → AllFit (length infos.functions) fs → FunctionsAnswer below settings types m trace infos fs (Err told) → IsReportedOfFunctions told
   unfolding FunctionsAnswer
   functions_tell trace infos [] all (inl behind) = no_entries trace infos m.entry_points none behind.1
   functions_tell trace infos [] all (inr behind) = absurd (behind.0 sizes)
@@ -70,11 +70,11 @@ no_globals : (below : Meaning) (settings : Settings) (types : List TypeInfo) (m 
 no_globals below settings types m infos none =
     ap (λ (gs : List GlobalVariable). answer (first_fault (points_of_each (points_of_global below settings types m infos) gs)) tt) none
 
-pub functions_alone_are_told : FunctionsAloneAreTold
-functions_alone_are_told below settings types global_types m told fits globals entries functions (inl memory) =
-    let same : told ≡ fault.Memory = cc in subst IsToldOfFunctions (sym same) tt
-functions_alone_are_told below settings types global_types m told fits globals entries functions (inr (inr unfit)) = absurd (unfit.0 fits)
-functions_alone_are_told below settings types global_types m told fits globals entries functions (inr (inl judged)) =
+pub functions_alone_are_reported : FunctionsAloneAreReported
+functions_alone_are_reported below settings types global_types m told fits globals entries functions (inl memory) =
+    let same : told ≡ fault.Memory = cc in subst IsReportedOfFunctions (sym same) tt
+functions_alone_are_reported below settings types global_types m told fits globals entries functions (inr (inr unfit)) = absurd (unfit.0 fits)
+functions_alone_are_reported below settings types global_types m told fits globals entries functions (inr (inl judged)) =
     functions_tell below settings types m told entries (no_payloads below m globals) no_traces (first_infos global_types) m.functions
     (λ i f is. let same : i ≡ 0 + i = omega arith in subst (λ n. FitsFunction f m n) same (functions i f is))
     (subst (λ o. AnswersStep o (IsOfFunction (λ e. e)) (λ done. FunctionsAnswer below settings types m no_traces (first_infos global_types) m.functions) (Err told))

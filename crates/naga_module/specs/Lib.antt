@@ -25,7 +25,7 @@ pub use Rattle.naga_module.specs.ModuleInfos.{infos_before, OfFunctions, OfEntry
 pub use Rattle.ir_misfits.specs.declared.misfit.Misfit.{Misfit}
 pub use Rattle.naga_module.specs.Misfits.{module_points, AllFits}
 pub use Rattle.naga_module.specs.ModuleJudgement.{Fits, IsJudgement, IsJudgementOrMemory}
-pub use Rattle.naga_module.specs.ModuleLaw.{IsSoundFunction, ModuleHolds, ModuleFillsOnce, ModuleBindsApart, AcceptedModuleIsJudged, AcceptedModuleHolds, AcceptedModuleFillsOnce, AcceptedModuleBindsApart, IsToldOfFunctions, FunctionsAloneAreTold}
+pub use Rattle.naga_module.specs.ModuleLaw.{IsSoundFunction, ModuleHolds, ModuleFillsOnce, ModuleBindsApart, AcceptedModuleIsJudged, AcceptedModuleHolds, AcceptedModuleFillsOnce, AcceptedModuleBindsApart, IsReportedOfFunctions, FunctionsAloneAreReported}
 pub use Rattle.naga_module.specs.OneJudgement.{IsSameFault, IsSameAnswer, ModuleHasOneJudgement}
 pub use Rattle.check_faults.specs.declared.module.ModuleFault.{ModuleFault}
 pub use Rattle.check_faults.specs.declared.module.ModuleFault.TheVariants as module_fault

@@ -1,7 +1,6 @@
 -- The misfits of a module and of what is given beside it, in the order in which `check_module` tests; and what it is to fit.
-use Rattle.std.specs.Prelude.{ℕ, Bool, true, false, not, ◌||◌, ◌==◌, is_some, List, [], ◌∷◌, ◌++◌, Result, Ok, Err, All, length}
-use Rattle.ir_types.specs.declared.types.AddressSpace.{AddressSpace}
-use Rattle.ir_types.specs.declared.types.AddressSpace.TheVariants as space
+use Rattle.std.specs.Prelude.{ℕ, not, ◌||◌, ◌==◌, is_some, List, [], ◌∷◌, ◌++◌, Result, Ok, Err, All, length}
+use Rattle.ir_types.specs.SpaceTests.{is_task_payload}
 use Rattle.ir_types.specs.declared.typifier.TypeResolution.{TypeResolution}
 use Rattle.ir_module.specs.declared.functions.Function.{Function}
 use Rattle.ir_module.specs.declared.module.EntryPoint.{EntryPoint}
@@ -57,18 +56,6 @@ module_function_points m k f = function_points (owner.Function k) f m k
 abbrev pub entry_point_points : Module → ℕ → EntryPoint → MisfitPoints
 entry_point_points m k p =
     function_points (owner.EntryPoint k) p.function m (length m.functions) ++ entry_points k p m
-
-abbrev pub is_task_payload : AddressSpace → Bool
-is_task_payload space.Function = false
-is_task_payload space.Private = false
-is_task_payload space.WorkGroup = false
-is_task_payload space.Uniform = false
-is_task_payload (space.Storage access) = false
-is_task_payload space.Handle = false
-is_task_payload space.Immediate = false
-is_task_payload space.TaskPayload = true
-is_task_payload space.RayPayload = false
-is_task_payload space.IncomingRayPayload = false
 
 -- the size of the type of a global in TaskPayload is known
 abbrev pub size_points : Meaning → Module → ℕ → GlobalVariable → MisfitPoints

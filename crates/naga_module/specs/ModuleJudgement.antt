@@ -27,15 +27,15 @@ use Rattle.check_faults.specs.declared.module.ModuleFault.{ModuleFault}
 use Rattle.check_faults.specs.declared.module.ModuleFault.TheVariants as fault
 
 -- an answer about a module: its infos, or the first fault
-abbrev pub Answer : Type 0
-Answer = Result ModuleInfo ModuleFault
+abbrev pub ModuleAnswer : Type 0
+ModuleAnswer = Result ModuleInfo ModuleFault
 
 -- a test: where it holds the next step decides; elsewhere the module doesn't fit
-abbrev pub Tested : Type 0 → (Answer → Type 0) → Answer → Type 0
+abbrev pub Tested : Type 0 → (ModuleAnswer → Type 0) → ModuleAnswer → Type 0
 Tested Holds Next r = (Holds × Next r) ⊎ ((Holds → ⊥) × (r ≡ Err fault.NotFit))
 
 -- a judgement: its fault, as this makes it one of the module; else the next step decides, with what was found
-abbrev pub AnswersStep : {A E : Type 0} → Result A E → (E → ModuleFault → Type 0) → (A → Answer → Type 0) → Answer → Type 0
+abbrev pub AnswersStep : {A E : Type 0} → Result A E → (E → ModuleFault → Type 0) → (A → ModuleAnswer → Type 0) → ModuleAnswer → Type 0
 AnswersStep (Ok x) Makes Next r = Next x r
 AnswersStep (Err e) Makes Next (Ok infos) = ⊥
 AnswersStep (Err e) Makes Next (Err told) = Makes e told
@@ -71,7 +71,7 @@ module _ (below : Meaning) (settings : Settings) (types : List TypeInfo) (m : Mo
   globals_step infos = answer (first_fault (points_of_each (points_of_global infos) m.global_variables)) tt
 
   -- the entry points from here on, behind these infos and what ray traces left
-  unfoldable pub EntriesAnswer : TraceState → ModuleInfo → List EntryPoint → Answer → Type 0
+  unfoldable pub EntriesAnswer : TraceState → ModuleInfo → List EntryPoint → ModuleAnswer → Type 0
   EntriesAnswer trace infos [] r = r ≡ Ok infos
   EntriesAnswer trace infos (p ∷ ps) r =
       Tested (FitsFunction p.function m (length infos.functions) × FitsEntry p m)
@@ -79,11 +79,11 @@ module _ (below : Meaning) (settings : Settings) (types : List TypeInfo) (m : Mo
       (λ left. EntriesAnswer left.trace (with_entry infos left.info) ps)) r
 
   -- behind the functions: the sizes of task payloads, then the entry points
-  abbrev pub BehindFunctions : TraceState → ModuleInfo → Answer → Type 0
+  abbrev pub BehindFunctions : TraceState → ModuleInfo → ModuleAnswer → Type 0
   BehindFunctions trace infos r = Tested (HasPayloadSizes below m) (EntriesAnswer trace infos m.entry_points) r
 
   -- the functions from here on, and what is behind them
-  unfoldable pub FunctionsAnswer : TraceState → ModuleInfo → List Function → Answer → Type 0
+  unfoldable pub FunctionsAnswer : TraceState → ModuleInfo → List Function → ModuleAnswer → Type 0
   FunctionsAnswer trace infos [] r = BehindFunctions trace infos r
   FunctionsAnswer trace infos (f ∷ fs) r =
       Tested (FitsFunction f m (length infos.functions))
@@ -92,7 +92,7 @@ module _ (below : Meaning) (settings : Settings) (types : List TypeInfo) (m : Mo
       (λ left. FunctionsAnswer left.trace (with_info infos left.info) fs)) r
 
   -- behind the tests: the globals, then the functions
-  abbrev pub BehindTests : TraceState → ModuleInfo → Answer → Type 0
+  abbrev pub BehindTests : TraceState → ModuleInfo → ModuleAnswer → Type 0
   BehindTests trace infos r =
       AnswersStep (globals_step infos) (IsOfFunction (λ e. e)) (λ done. FunctionsAnswer trace infos m.functions) r
 
@@ -103,9 +103,9 @@ module _ (below : Meaning) (settings : Settings) (types : List TypeInfo) (m : Mo
     pub globals : FitsGlobals m (first_infos global_types)
 
   -- the answer about a module, where these are the types of its global expressions
-  abbrev pub IsJudgement : List TypeResolution → Answer → Type 0
+  abbrev pub IsJudgement : List TypeResolution → ModuleAnswer → Type 0
   IsJudgement global_types r = Tested (Fits global_types) (BehindTests no_traces (first_infos global_types)) r
 
   -- the answer is the judgement, or there was no memory
-  abbrev pub IsJudgementOrMemory : List TypeResolution → Answer → Type 0
+  abbrev pub IsJudgementOrMemory : List TypeResolution → ModuleAnswer → Type 0
   IsJudgementOrMemory global_types r = (r ≡ Err fault.Memory) ⊎ IsJudgement global_types r

@@ -91,18 +91,18 @@ AcceptedModuleBindsApart =
     ModuleBindsApart settings types m infos)
 
 -- the fault of a function, or want of memory
-abbrev pub IsToldOfFunctions : ModuleFault → Type 0
-IsToldOfFunctions (fault.Function handle error) = ⊤
-IsToldOfFunctions fault.Memory = ⊤
-IsToldOfFunctions fault.NotFit = ⊥
-IsToldOfFunctions (fault.Global handle error) = ⊥
-IsToldOfFunctions (fault.EntryPoint index error) = ⊥
+abbrev pub IsReportedOfFunctions : ModuleFault → Type 0
+IsReportedOfFunctions (fault.Function handle error) = ⊤
+IsReportedOfFunctions fault.Memory = ⊤
+IsReportedOfFunctions fault.NotFit = ⊥
+IsReportedOfFunctions (fault.Global handle error) = ⊥
+IsReportedOfFunctions (fault.EntryPoint index error) = ⊥
 
 -- Of a module without globals and entry points in which everything fits nothing else can be told.
-abbrev pub FunctionsAloneAreTold : Type 0
-FunctionsAloneAreTold =
+abbrev pub FunctionsAloneAreReported : Type 0
+FunctionsAloneAreReported =
     (below : Meaning) (settings : Settings) (types : List TypeInfo) (global_types : List TypeResolution) (m : Module)
     (told : ModuleFault) →
     Fits below settings types m global_types → m.global_variables ≡ [] → m.entry_points ≡ [] →
     EachAt (λ k f. FitsFunction f m k) m.functions →
-    IsJudgementOrMemory below settings types m global_types (Err told) → IsToldOfFunctions told
+    IsJudgementOrMemory below settings types m global_types (Err told) → IsReportedOfFunctions told

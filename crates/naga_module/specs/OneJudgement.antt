@@ -7,7 +7,7 @@ use Rattle.ir_module.specs.declared.module.Module.{Module}
 use Rattle.ir_types.specs.declared.typifier.TypeResolution.{TypeResolution}
 use Rattle.check_entry.specs.EntryFaults.{fault_of}
 use Rattle.ir_facts.specs.Meaning.{Meaning}
-use Rattle.naga_module.specs.ModuleJudgement.{Answer, IsJudgement}
+use Rattle.naga_module.specs.ModuleJudgement.{ModuleAnswer, IsJudgement}
 use Rattle.check_faults.specs.declared.module.ModuleFault.{ModuleFault}
 use Rattle.check_faults.specs.declared.module.ModuleFault.TheVariants as fault
 
@@ -17,7 +17,7 @@ IsSameFault (fault.EntryPoint k error) (fault.EntryPoint n other) = (k ≡ n) ×
 IsSameFault told other = told ≡ other
 
 -- the same infos, or the same fault
-abbrev pub IsSameAnswer : Answer → Answer → Type 0
+abbrev pub IsSameAnswer : ModuleAnswer → ModuleAnswer → Type 0
 IsSameAnswer (Ok infos) (Ok others) = infos ≡ others
 IsSameAnswer (Err told) (Err other) = IsSameFault told other
 IsSameAnswer _ _ = ⊥
@@ -26,5 +26,5 @@ IsSameAnswer _ _ = ⊥
 abbrev pub ModuleHasOneJudgement : Type 0
 ModuleHasOneJudgement =
     (below : Meaning) (settings : Settings) (types : List TypeInfo) (global_types : List TypeResolution) (m : Module)
-    (r s : Answer) →
+    (r s : ModuleAnswer) →
     IsJudgement below settings types m global_types r → IsJudgement below settings types m global_types s → IsSameAnswer r s

@@ -28,6 +28,7 @@ use ir_facts::below::Below;
 use ir_facts::valid::info::ModuleInfo;
 use ir_facts::valid::settings::Settings;
 use ir_fits::{fits_globals, fits_types};
+use ir_misfits::signature::fitting_signatures;
 use ir_module::module::Module;
 use ir_types::type_info::TypeInfo;
 use ir_types::typifier::TypeResolution;
@@ -142,10 +143,12 @@ pub fn check_module<B: Below + Drop>(
         return Err(ModuleFault::NotFit);
     }
     validate_globals(alloc, &validator, module, &infos)?;
-    validate_functions(alloc, &mut validator, module, &mut infos)?;
+    let marks = fitting_signatures(alloc, module);
+    let fitting = marks.as_slice();
+    validate_functions(alloc, &mut validator, module, fitting, &mut infos)?;
     if !validator.has_payload_sizes(module) {
         return Err(ModuleFault::NotFit);
     }
-    validate_entry_points(alloc, &mut validator, module, &mut infos)?;
+    validate_entry_points(alloc, &mut validator, module, fitting, &mut infos)?;
     Ok(infos)
 }

@@ -1,6 +1,6 @@
 //! Laws of the judgement of modules: they compute nothing, and a caller calls them to cite them.
 
-ghost use Rattle.naga_module.specs.ModuleLaw.{AcceptedModuleIsJudged, AcceptedModuleHolds, AcceptedModuleFillsOnce, AcceptedModuleBindsApart, FunctionsAloneAreTold};
+ghost use Rattle.naga_module.specs.ModuleLaw.{AcceptedModuleIsJudged, AcceptedModuleHolds, AcceptedModuleFillsOnce, AcceptedModuleBindsApart, FunctionsAloneAreReported};
 ghost use Rattle.naga_module.specs.OneJudgement.{ModuleHasOneJudgement};
 
 /// Law of modules. Of one that the judgement accepts it says what `check_module` does, clause by clause.
@@ -11,7 +11,7 @@ ghost use Rattle.naga_module.specs.OneJudgement.{ModuleHasOneJudgement};
 /// - `filled`: with BLOCKS and EXPRESSIONS each result is filled once.
 /// - `bindings`: with BINDINGS the bindings of used globals, and the locations of a group, are distinct.
 /// - `one`: a module has one judgement.
-/// - `told`: a module without globals and entry points in which everything fits is refused only for the fault of a function,
+/// - `reported`: a module without globals and entry points in which everything fits is refused only for the fault of a function,
 ///   or for out of memory.
 pub fn module_law()
     ensures infos { AcceptedModuleIsJudged }
@@ -19,5 +19,5 @@ pub fn module_law()
     ensures filled { AcceptedModuleFillsOnce }
     ensures bindings { AcceptedModuleBindsApart }
     ensures one { ModuleHasOneJudgement }
-    ensures told { FunctionsAloneAreTold }
+    ensures reported { FunctionsAloneAreReported }
 {}

@@ -3,13 +3,14 @@
 #![tactic(auto)]
 
 mod check;
-pub mod laws;
+mod laws;
 mod misfit;
-pub mod worked;
+mod worked;
 
 pub use crate::check::{Given, check_module};
 pub use crate::laws::module_law;
 pub use crate::misfit::find_misfit;
+pub use crate::worked::worked_chain;
 pub use check_faults::{
     ModuleFault, Subject, Whereabouts, write_fault, write_module_fault, write_module_fault_lines,
     write_refusal,

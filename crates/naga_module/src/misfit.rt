@@ -4,9 +4,10 @@ ghost use Rattle.std.specs.Prelude.{◌≡◌, ◌↔◌, ◌∷◌, [], None, E
 ghost use Rattle.ir_arena.specs.Points.{first_fault, points_of_each};
 ghost use Rattle.ir_facts.specs.declared.valid.settings.Settings.{Settings};
 ghost use Rattle.check_faults.specs.declared.module.ModuleFault.TheVariants as fault;
-ghost use Rattle.naga_module.specs.Misfits.{layout_points, info_points, one_info_each, infos_points, module_function_points, entry_point_points, is_task_payload, size_points, module_points, AllFits};
+ghost use Rattle.naga_module.specs.Misfits.{layout_points, info_points, one_info_each, infos_points, module_function_points, entry_point_points, size_points, module_points, AllFits};
 ghost use Rattle.naga_module.specs.ModuleJudgement.{IsJudgement};
 ghost use Rattle.ir_facts.specs.Answers.{Finds, FirstOf};
+ghost use Rattle.ir_misfits.specs.FittingSignatures.{MarkFitting};
 
 use crate::check::Given;
 use ir_arena::handle::Handle;
@@ -14,19 +15,25 @@ use ir_arena::tag;
 use ir_facts::below::Below;
 use ir_fits::{check_entry_fits, check_function_fits, check_globals_fit, check_types_fit};
 use ir_misfits::misfit::{HandleOf, Misfit, Owner, Place, Problem, VariableField};
+use ir_misfits::signature::fitting_signatures;
 use ir_module::functions::Function;
 use ir_module::module::{EntryPoint, GlobalVariable, Module};
 use ir_types::type_info::{Disalignment, TypeInfo};
-use ir_types::types::AddressSpace;
 use ir_types::typifier::TypeResolution;
+use std::alloc::Global;
 
-/// The first misfit of a module: None exactly where all tests of conditions hold that `check_module` may make. It takes no
-/// memory.
+/// The first misfit of a module: None exactly where all tests of conditions hold that `check_module` may make. Where it is
+/// refused memory it answers the same, later.
 ///
 /// The order is that of `check_module`: the infos of types, the types, the globals, each function, the sizes of task
 /// payloads, each entry point. Of each the misfit is the first in the order of its `check_.._fits` in `ir_fits`. Where
 /// `check_module` answers `NotFit`, this is why. It may also report a misfit after the fault that `check_module` answers.
-pub fn find_misfit<B: Below>(below: &B, given: &Given, module: &Module) -> Option<Misfit>
+pub fn find_misfit<B: Below>(
+    alloc: Global,
+    below: &B,
+    given: &Given,
+    module: &Module,
+) -> Option<Misfit>
     // The answer is the first misfit, in the order of the tests.
     ensures first { result ≡ first_fault (module_points (B.meaning below.now) given.now.types.items «module».now
         given.now.global_types.items) }
@@ -36,12 +43,13 @@ pub fn find_misfit<B: Below>(below: &B, given: &Given, module: &Module) -> Optio
         given.now.global_types.items }
 
     // Of a module that the judgement answers NotFit of, whatever the settings, a misfit is reported.
-    ensures told { (settings : Settings) → IsJudgement (B.meaning below.now) settings given.now.types.items «module».now
+    ensures reported { (settings : Settings) → IsJudgement (B.meaning below.now) settings given.now.types.items «module».now
         given.now.global_types.items (Err fault.NotFit) → IsSome result }
 {
     let types = given.types.as_slice();
     let global_types = given.global_types.as_slice();
-    check_all_fit(below, types, global_types, module).err()
+    let marks = fitting_signatures(alloc, module);
+    check_all_fit(below, types, global_types, module, marks.as_slice()).err()
 }
 
 /// The first misfit, as an Err.
@@ -51,16 +59,18 @@ fn check_all_fit<B: Below>(
     types: &[TypeInfo],
     global_types: &[TypeResolution],
     module: &Module,
+    fitting: &[bool],
 ) -> Result<(), Misfit>
+    requires fitting { MarkFitting «module».now fitting.now }
     ensures { Finds (FirstOf (module_points (B.meaning below.now) types.now «module».now
         global_types.now)) result }
 {
     check_infos_fit(module, types)?;
     check_types_fit(module)?;
     check_globals_fit(module, global_types)?;
-    check_functions_fit(module.functions.as_slice(), module)?;
+    check_functions_fit(module.functions.as_slice(), module, fitting)?;
     check_sizes(below, module.global_variables.as_slice(), module)?;
-    check_entry_points_fit(module.entry_points.as_slice(), module)
+    check_entry_points_fit(module.entry_points.as_slice(), module, fitting)
 }
 
 /// The type that makes a layout bad is one of so many.
@@ -115,31 +125,18 @@ fn check_infos_fit(module: &Module, infos: &[TypeInfo]) -> Result<(), Misfit>
 }
 
 /// Each function, with the functions before it.
-fn check_functions_fit(functions: &[Function], module: &Module) -> Result<(), Misfit>
+fn check_functions_fit(
+    functions: &[Function],
+    module: &Module,
+    fitting: &[bool],
+) -> Result<(), Misfit>
+    requires fitting { MarkFitting «module».now fitting.now }
     ensures { Finds (FirstOf (points_of_each (module_function_points «module».now) functions.now)) result }
 {
     for (place, fun) in functions.iter().enumerate() {
-        check_function_fits(Owner::Function(place), fun, module, place)?;
+        check_function_fits(Owner::Function(place), fun, module, fitting, place)?;
     }
     Ok(())
-}
-
-/// Whether a space is that of task payloads.
-fn is_task_payload(space: AddressSpace) -> bool
-    ensures { result ≡ is_task_payload space }
-{
-    match space {
-        AddressSpace::TaskPayload => true,
-        AddressSpace::Function
-        | AddressSpace::Private
-        | AddressSpace::WorkGroup
-        | AddressSpace::Uniform
-        | AddressSpace::Storage { .. }
-        | AddressSpace::Handle
-        | AddressSpace::Immediate
-        | AddressSpace::RayPayload
-        | AddressSpace::IncomingRayPayload => false,
-    }
 }
 
 fn check_size<B: Below>(
@@ -150,7 +147,7 @@ fn check_size<B: Below>(
 ) -> Result<(), Misfit>
     ensures { Finds (FirstOf (size_points (B.meaning below.now) «module».now place global.now)) result }
 {
-    if !is_task_payload(global.space) || below.type_size(module, global.ty).is_some() {
+    if !global.space.is_task_payload() || below.type_size(module, global.ty).is_some() {
         return Ok(());
     }
     let ty = global.ty.index();
@@ -172,20 +169,37 @@ fn check_sizes<B: Below>(
 }
 
 #[tactic(auto, using(ir_arena::proofs::Points::first_of_both))]
-fn check_entry_point_fits(place: usize, ep: &EntryPoint, module: &Module) -> Result<(), Misfit>
+fn check_entry_point_fits(
+    place: usize,
+    ep: &EntryPoint,
+    module: &Module,
+    fitting: &[bool],
+) -> Result<(), Misfit>
+    requires fitting { MarkFitting «module».now fitting.now }
     ensures { Finds (FirstOf (entry_point_points «module».now place ep.now)) result }
 {
     let earlier = module.functions.len();
-    check_function_fits(Owner::EntryPoint(place), &ep.function, module, earlier)?;
+    check_function_fits(
+        Owner::EntryPoint(place),
+        &ep.function,
+        module,
+        fitting,
+        earlier,
+    )?;
     check_entry_fits(place, ep, module)
 }
 
 /// Each entry point, with all functions.
-fn check_entry_points_fit(entries: &[EntryPoint], module: &Module) -> Result<(), Misfit>
+fn check_entry_points_fit(
+    entries: &[EntryPoint],
+    module: &Module,
+    fitting: &[bool],
+) -> Result<(), Misfit>
+    requires fitting { MarkFitting «module».now fitting.now }
     ensures { Finds (FirstOf (points_of_each (entry_point_points «module».now) entries.now)) result }
 {
     for (place, ep) in entries.iter().enumerate() {
-        check_entry_point_fits(place, ep, module)?;
+        check_entry_point_fits(place, ep, module, fitting)?;
     }
     Ok(())
 }

@@ -9,7 +9,7 @@ use Rattle.naga_runs.specs.Handles.{Handles}
 use Rattle.naga_runs.specs.DeadCode.{has_no_case, goes_on, breaks, continues, list_goes_on, list_breaks, list_continues, cases_go_on, turn_goes_on, earlier_go_on, lists_go_on, may_come}
 use Rattle.naga_runs.specs.Machine.{Event, Outcome, Run, recorded, after, left, by_choice, at_zero, then_rest, then_case, closing, then_close, turn, turns, run_stmt, run_body, run_cases, Next, Broken, Continued, Returned, Ended, Stopped, Stuck, Ran}
 use Rattle.naga_runs.specs.Must.{with_sure}
-use Rattle.naga_runs.specs.Positions.{Part, Position, Node, statement_at, case_at, list_below, condition_node, node_at, Root, Inner, Accept, Reject, Case, LoopBody, Continuing, Condition, In, StatementNode, BreakIfNode}
+use Rattle.naga_runs.specs.Positions.{Part, Position, BodyNode, statement_at, case_at, list_below, condition_node, node_at, Root, Inner, Accept, Reject, Case, LoopBody, Continuing, Condition, In, StatementNode, BreakIfNode}
 use Rattle.naga_runs.specs.PutsAndUses.{acts_of, node_acts, with_acts, with_body}
 use Rattle.naga_runs.specs.Scope.{known_at}
 use Rattle.naga_runs.specs.Trail.{Arrival, where_next, where_turned, where_fallen, trail_by_choice, trail_at_zero, trail_closing, trail_turns, trail_stmt, trail_body, trail_cases}
@@ -48,7 +48,7 @@ module _ (n : ℕ) (Q A : Arrival → Type 0) where
   Fine S E (Ran es o i live cs) t = AllByRecursion Q t × Settled (able_of S o) t × E o live
 
   -- what holds of an arrival
-  abbrev pub Heard : Node → Setting → Position → Arrival → Type 0
+  abbrev pub Heard : BodyNode → Setting → Position → Arrival → Type 0
   Heard node S r a = Q a × (A a → AbleAt node S r) × (AbleAt node S r → A a)
 
   abbrev pub HeardStmt : Stmt → Setting → Position → Type 0

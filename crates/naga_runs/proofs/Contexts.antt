@@ -7,7 +7,7 @@ use Rattle.naga_runs.specs.Handles.{Handles}
 use Rattle.naga_runs.specs.Abilities.{may_return_from, may_break_from, may_continue_from, node_jump}
 use Rattle.naga_runs.specs.Machine.{Outcome, Next, Broken, Continued, Returned, Ended, Stopped, Stuck}
 use Rattle.naga_runs.specs.Must.{holds_continue, body_holds_continue, with_sure}
-use Rattle.naga_runs.specs.Positions.{Position, Node, case_at, list_below, node_below, node_at, Root, Inner, Accept, Reject, Case, LoopBody, Continuing, In}
+use Rattle.naga_runs.specs.Positions.{Position, BodyNode, case_at, list_below, node_below, node_at, Root, Inner, Accept, Reject, Case, LoopBody, Continuing, In}
 use Rattle.naga_runs.specs.PutsAndUses.{acts_of, node_acts, with_acts, with_body}
 use Rattle.naga_runs.specs.Scope.{with_lists, known_at}
 use Rattle.naga_runs.specs.Skipped.{with_rest, with_skipped, with_cut, cuts_below, skipped_from}
@@ -15,7 +15,7 @@ use Rattle.naga_runs.specs.Soundness.{Allowed}
 use Rattle.naga_runs.proofs.Tallies.{Tallied, Within, Fresh, acts_cut}
 
 -- the same below a statement
-abbrev pub node_in : Stmt → Position → Node
+abbrev pub node_in : Stmt → Position → BodyNode
 node_in x p = node_below (Some x) p (node_at (list_below (Some x) p) p)
 
 abbrev pub known_in : (Handles → Body → Handles) → Stmt → Handles → Position → Handles
@@ -51,7 +51,7 @@ abbrev pub in_case : Context → Context
 in_case C = record C { brk = true }
 
 -- the conditions at a position, of which `node` stands there
-abbrev pub AbleAt : Node → Context → Position → Type 0
+abbrev pub AbleAt : BodyNode → Context → Position → Type 0
 AbleAt node C p = Allowed (node_jump node) (may_return_from C.ret p) (may_break_from C.brk p)
     (may_continue_from C.cont p)
 

@@ -3,7 +3,7 @@ use Rattle.std.specs.List.{AllByRecursion}
 use Rattle.std.specs.Prelude.{ℕ, zero, suc, List, Option, Some, None, map, ◌≡◌, ◌⊎◌, ◌∷◌, ◌++◌, [], ◌+◌}
 use Rattle.std.proofs.Common.{refl, ap, subst, arith, inl, inr}
 use Rattle.ir_statements.specs.Tree.{Stmt, Body, Cases, Block, Branch, Switch, Loop, Done, Then, NoCase, OneCase}
-use Rattle.naga_runs.specs.Positions.{Part, Position, Node, case_at, list_below, condition_node, node_below, node_at, Root, Inner, Accept, Reject, Case, LoopBody, Continuing, Condition, In, NoNode}
+use Rattle.naga_runs.specs.Positions.{Part, Position, BodyNode, case_at, list_below, condition_node, node_below, node_at, Root, Inner, Accept, Reject, Case, LoopBody, Continuing, Condition, In, NoNode}
 use Rattle.naga_runs.specs.VisitOrder.{condition_positions, positions_from, positions_below, positions_of_cases, positions}
 
 pub node_none : (p : Position) → node_at Done p ≡ NoNode
@@ -25,13 +25,13 @@ all_right Q [] qs a = a
 all_right Q (p ∷ ps) qs a = all_right Q ps qs a.1
 
 -- nothing stands there, or Q holds
-abbrev Holds : (Position → Type 0) → Node → Position → Type 0
+abbrev Holds : (Position → Type 0) → BodyNode → Position → Type 0
 Holds Q node p = (node ≡ NoNode) ⊎ Q p
 
-holds_at : (Q : Position → Type 0) (node : Node) (p q : Position) → p ≡ q → Holds Q node p → Holds Q node q
+holds_at : (Q : Position → Type 0) (node : BodyNode) (p q : Position) → p ≡ q → Holds Q node p → Holds Q node q
 holds_at Q node p q e h = subst (λ x. Holds Q node x) e h
 
-from_zero : (Q : Position → Type 0) (node : Node) (part : Part) (j : ℕ) (r : Position) →
+from_zero : (Q : Position → Type 0) (node : BodyNode) (part : Part) (j : ℕ) (r : Position) →
     Holds Q node (In part (0 + j) ∷ r) → Holds Q node (In part j ∷ r)
 from_zero Q node part j r h = let e : 0 + j ≡ j = omega arith in holds_at Q node _ _ (ap (λ m. In part m ∷ r) e) h
 

@@ -11,7 +11,7 @@ use Rattle.naga_runs.specs.Exactness.{AlwaysLive, MustIsLive, MustIsExact, Jumps
 use Rattle.naga_runs.specs.Handles.{Handles, no_handles}
 use Rattle.naga_runs.specs.Machine.{Outcome, Run, whole, run, run_body, outcome_of, Next, Broken, Continued, Returned, Ended, Stopped, Stuck, Ran}
 use Rattle.naga_runs.specs.Must.{must_at}
-use Rattle.naga_runs.specs.Positions.{Position, Node, node_at, Root, In, NoNode}
+use Rattle.naga_runs.specs.Positions.{Position, BodyNode, node_at, Root, In, NoNode}
 use Rattle.naga_runs.specs.Scope.{known_at}
 use Rattle.naga_runs.specs.Soundness.{Allowed, HasAbility}
 use Rattle.naga_runs.specs.Trail.{Arrival, trail}
@@ -57,7 +57,7 @@ whole_fine n Q A pre b (Ran es Ended i l cs) t f = (f.0, f.1)
 whole_fine n Q A pre b (Ran es Stopped i l cs) t f = (f.0, f.1)
 whole_fine n Q A pre b (Ran es Stuck i l cs) t f = (f.0, f.1)
 
-able_here : (a : Arrival) (node : Node) (p : Position) → a.position ≡ p → a.node ≡ node →
+able_here : (a : Arrival) (node : BodyNode) (p : Position) → a.position ≡ p → a.node ≡ node →
     Able a ≡ HasAbility (node_jump node) p
 able_here a node p e f =
     ap (λ q. HasAbility (node_jump a.node) q) e ∙ ap (λ x. HasAbility (node_jump x) p) f

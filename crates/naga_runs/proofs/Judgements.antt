@@ -15,7 +15,7 @@ use Rattle.naga_runs.specs.Judgement.{Rules, state_after, points_after, judgemen
 use Rattle.naga_runs.specs.Positions.{Position, StatementNode, BreakIfNode}
 use Rattle.naga_runs.specs.Soundness.{IsSurelyFit}
 use Rattle.naga_runs.specs.VisitOrder.{positions}
-use Rattle.naga_runs.specs.Visits.{Place, Visit, visit_at, visits_of}
+use Rattle.naga_runs.specs.Visits.{VisitPlace, Visit, visit_at, visits_of}
 use Rattle.naga_runs.proofs.Laws.{surely_fit_is_sure}
 use Rattle.naga_runs.proofs.Reading.{blocks_are_read}
 use Rattle.naga_runs.proofs.VisitsByTree.{visits_are}
@@ -103,58 +103,58 @@ module _ {State Fault : Type 0} (R : Rules State Fault) where
       go (Some x) last e = cc
 
   -- the equations of the tree
-  pub judge_done : (st : State) (c : Place) → judge_body R st c Done ≡ Ok st
+  pub judge_done : (st : State) (c : VisitPlace) → judge_body R st c Done ≡ Ok st
   unfolding judge_body judge_visits
   judge_done st c = refl
 
-  pub judge_more : (st : State) (c : Place) (x : Stmt) (b : Body) →
+  pub judge_more : (st : State) (c : VisitPlace) (x : Stmt) (b : Body) →
       judge_body R st c (Then x b) ≡ and_then (judge_stmt R st c x) (λ s. judge_body R s (past x c) b)
   unfolding judge_body judge_stmt
   judge_more st c x b = judge_visits-append st (record { place = c; node = StatementNode x } ∷ part_visits c x)
       (body_visits (past x c) b)
 
-  pub judge_own : (st : State) (c : Place) (x : Stmt) →
+  pub judge_own : (st : State) (c : VisitPlace) (x : Stmt) →
       judge_stmt R st c x ≡ and_then (judge R st (record { place = c; node = StatementNode x }))
       (λ s. judge_parts R s c x)
   unfolding judge_stmt judge_parts judge_visits
   judge_own st c x = refl
 
-  pub judge_leaf : (st : State) (c : Place) (acts : List Act) (x : Statement) (span : Span) →
+  pub judge_leaf : (st : State) (c : VisitPlace) (acts : List Act) (x : Statement) (span : Span) →
       judge_parts R st c (Leaf acts x span) ≡ Ok st
   unfolding judge_parts judge_visits
   judge_leaf st c acts x span = refl
 
-  pub judge_break : (st : State) (c : Place) → judge_parts R st c Break ≡ Ok st
+  pub judge_break : (st : State) (c : VisitPlace) → judge_parts R st c Break ≡ Ok st
   unfolding judge_parts judge_visits
   judge_break st c = refl
 
-  pub judge_continue : (st : State) (c : Place) → judge_parts R st c Continue ≡ Ok st
+  pub judge_continue : (st : State) (c : VisitPlace) → judge_parts R st c Continue ≡ Ok st
   unfolding judge_parts judge_visits
   judge_continue st c = refl
 
-  pub judge_return : (st : State) (c : Place) (value : Option ℕ) → judge_parts R st c (Return value) ≡ Ok st
+  pub judge_return : (st : State) (c : VisitPlace) (value : Option ℕ) → judge_parts R st c (Return value) ≡ Ok st
   unfolding judge_parts judge_visits
   judge_return st c value = refl
 
-  pub judge_kill : (st : State) (c : Place) → judge_parts R st c Kill ≡ Ok st
+  pub judge_kill : (st : State) (c : VisitPlace) → judge_parts R st c Kill ≡ Ok st
   unfolding judge_parts judge_visits
   judge_kill st c = refl
 
-  pub judge_block : (st : State) (c : Place) (b : Body) → judge_parts R st c (Block b) ≡ judge_body R st c b
+  pub judge_block : (st : State) (c : VisitPlace) (b : Body) → judge_parts R st c (Block b) ≡ judge_body R st c b
   unfolding judge_parts judge_body
   judge_block st c b = refl
 
-  pub judge_branch : (st : State) (c : Place) (h : ℕ) (a r : Body) →
+  pub judge_branch : (st : State) (c : VisitPlace) (h : ℕ) (a r : Body) →
       judge_parts R st c (Branch h a r) ≡ and_then (judge_body R st c a) (λ s. judge_body R s c r)
   unfolding judge_parts judge_body
   judge_branch st c h a r = judge_visits-append st (body_visits c a) (body_visits c r)
 
-  pub judge_switch : (st : State) (c : Place) (h : ℕ) (cs : Cases) →
+  pub judge_switch : (st : State) (c : VisitPlace) (h : ℕ) (cs : Cases) →
       judge_parts R st c (Switch h cs) ≡ judge_cases R st (in_case c) cs
   unfolding judge_parts judge_cases
   judge_switch st c h cs = refl
 
-  pub judge_loop : (st : State) (c : Place) (b d : Body) (q : Option ℕ) → judge_parts R st c (Loop b d q)
+  pub judge_loop : (st : State) (c : VisitPlace) (b d : Body) (q : Option ℕ) → judge_parts R st c (Loop b d q)
       ≡ and_then (judge_body R st (in_loop c) b)
       (λ s. and_then (judge_body R s (in_continuing b c) d) (λ t. judge_break_if R t (at_break_if b d c) q))
   unfolding judge_parts judge_body judge_break_if
@@ -165,20 +165,20 @@ module _ {State Fault : Type 0} (R : Rules State Fault) where
       (λ i s. judge_visits-append s (body_visits (in_continuing b c) d)
       (break_if_visits (at_break_if b d c) q) i)
 
-  pub judge_no_case : (st : State) (c : Place) → judge_cases R st c NoCase ≡ Ok st
+  pub judge_no_case : (st : State) (c : VisitPlace) → judge_cases R st c NoCase ≡ Ok st
   unfolding judge_cases judge_visits
   judge_no_case st c = refl
 
-  pub judge_one_case : (st : State) (c : Place) (v : SwitchValue) (falls : Bool) (b : Body) (cs : Cases) →
+  pub judge_one_case : (st : State) (c : VisitPlace) (v : SwitchValue) (falls : Bool) (b : Body) (cs : Cases) →
       judge_cases R st c (OneCase v falls b cs) ≡ and_then (judge_body R st c b) (λ s. judge_cases R s c cs)
   unfolding judge_cases judge_body
   judge_one_case st c v falls b cs = judge_visits-append st (body_visits c b) (case_visits c cs)
 
-  pub judge_no_break_if : (st : State) (c : Place) → judge_break_if R st c None ≡ Ok st
+  pub judge_no_break_if : (st : State) (c : VisitPlace) → judge_break_if R st c None ≡ Ok st
   unfolding judge_break_if judge_visits
   judge_no_break_if st c = refl
 
-  pub judge_at_break_if : (st : State) (c : Place) (h : ℕ) →
+  pub judge_at_break_if : (st : State) (c : VisitPlace) (h : ℕ) →
       judge_break_if R st c (Some h) ≡ judge R st (record { place = c; node = BreakIfNode h })
   unfolding judge_break_if judge_visits
   judge_at_break_if st c h = go (judge R st (record { place = c; node = BreakIfNode h }))

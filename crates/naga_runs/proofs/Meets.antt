@@ -6,7 +6,7 @@ use Rattle.ir_statements.specs.declared.operations.SwitchValue.{SwitchValue}
 use Rattle.naga_runs.specs.DeadCode.{goes_on, list_goes_on, turn_goes_on, earlier_go_on, may_come}
 use Rattle.naga_runs.specs.Handles.{Handles}
 use Rattle.naga_runs.specs.Machine.{Outcome, Run, run_stmt, run_body, Next, Continued, Ran}
-use Rattle.naga_runs.specs.Positions.{Part, Position, Node, case_at, list_below, condition_node, node_at, Root, Inner, Accept, Reject, Case, LoopBody, Continuing, Condition, In, NoNode, StatementNode}
+use Rattle.naga_runs.specs.Positions.{Part, Position, BodyNode, case_at, list_below, condition_node, node_at, Root, Inner, Accept, Reject, Case, LoopBody, Continuing, Condition, In, NoNode, StatementNode}
 use Rattle.naga_runs.specs.PutsAndUses.{with_body}
 use Rattle.naga_runs.specs.Scope.{with_lists, known_at}
 use Rattle.naga_runs.specs.Trail.{Arrival, where_next, where_turned, where_fallen, trail_closing, trail_turns, trail_stmt, trail_body, trail_cases}
@@ -346,7 +346,7 @@ condition_stands : (b c : Body) (q : Option ℕ) →
 condition_stands b c None stands turned w = absurd (stands refl)
 condition_stands b c (Some h) stands turned w = condition_met b c h turned w
 
-abbrev pub Stands : Node → Type 0
+abbrev pub Stands : BodyNode → Type 0
 Stands node = node ≡ NoNode → ⊥
 
 mutual

@@ -2,7 +2,7 @@
 use Rattle.std.specs.Prelude.{ℕ, zero, Option, Some, None, Contains, ◌≡◌, ◌∷◌, ◌++◌, []}
 use Rattle.std.proofs.Common.{refl, ap}
 use Rattle.ir_statements.specs.Tree.{Stmt, Body, Loop}
-use Rattle.naga_runs.specs.Positions.{Part, Step, Position, Node, list_below, statement_node, condition_node, node_below, node_at, Condition, In, StatementNode}
+use Rattle.naga_runs.specs.Positions.{Part, PositionStep, Position, BodyNode, list_below, statement_node, condition_node, node_below, node_at, Condition, In, StatementNode}
 use Rattle.naga_runs.specs.PutsAndUses.{node_acts, puts_of}
 use Rattle.naga_runs.proofs.Joins.{none_in}
 
@@ -24,19 +24,19 @@ pub condition_puts : (q : Option ℕ) (h : ℕ) → Contains (puts_of (node_acts
 condition_puts None h c = none_in h c
 condition_puts (Some g) h c = none_in h c
 
-pub puts_nearer : (x : Option Stmt) (part : Part) (i : ℕ) (q : Position) (deeper : Node) (h : ℕ) →
+pub puts_nearer : (x : Option Stmt) (part : Part) (i : ℕ) (q : Position) (deeper : BodyNode) (h : ℕ) →
     Contains (puts_of (node_acts (node_below x (In part i ∷ q) deeper))) h → Contains
     (puts_of (node_acts deeper)) h
 puts_nearer (Some (Loop b d q)) Condition zero [] deeper h c = absurd (condition_puts q h c)
 puts_nearer _ part i q deeper h c = c
 
-pub puts_near : (x : Option Stmt) (a : Position) (part : Part) (j : ℕ) (deeper : Node) (h : ℕ) →
+pub puts_near : (x : Option Stmt) (a : Position) (part : Part) (j : ℕ) (deeper : BodyNode) (h : ℕ) →
     Contains (puts_of (node_acts (node_below x (a ++ In part j ∷ []) deeper))) h → Contains
     (puts_of (node_acts deeper)) h
 puts_near x [] part j deeper h c = puts_nearer x part j [] deeper h c
 puts_near x (In q n ∷ a) part j deeper h c = puts_nearer x q n (a ++ In part j ∷ []) deeper h c
 
-pub empty_is : (a : Position) (step : Step) (r : Position) → [] ≡ a ++ step ∷ r → ⊥
+pub empty_is : (a : Position) (step : PositionStep) (r : Position) → [] ≡ a ++ step ∷ r → ⊥
 empty_is [] step r e = cc
 empty_is (x ∷ a) step r e = cc
 
@@ -55,14 +55,14 @@ pub loop_deeper : (x : Option Stmt) (part : Part) (i : ℕ) (q : Position) (y : 
 loop_deeper (Some (Loop b d q)) Condition zero [] y e = cc
 loop_deeper _ part i q y e = e
 
-pub loop_nearer : (x : Option Stmt) (part : Part) (i : ℕ) (q : Position) (deeper : Node) (b c : Body)
+pub loop_nearer : (x : Option Stmt) (part : Part) (i : ℕ) (q : Position) (deeper : BodyNode) (b c : Body)
     (cond : Option ℕ) → node_below x (In part i ∷ q) deeper ≡ StatementNode (Loop b c cond) →
     deeper ≡ StatementNode (Loop b c cond)
 loop_nearer (Some (Loop b d None)) Condition zero [] deeper b' c' cond e = cc
 loop_nearer (Some (Loop b d (Some h))) Condition zero [] deeper b' c' cond e = cc
 loop_nearer _ part i q deeper b c cond e = e
 
-abbrev pub statement_of : Node → Option Stmt
+abbrev pub statement_of : BodyNode → Option Stmt
 statement_of (StatementNode x) = Some x
 statement_of _ = None
 

@@ -8,7 +8,7 @@ use Rattle.naga_runs.specs.Handles.{Handles, with_handle}
 use Rattle.ir_arena.specs.Points.{Point, first_fault}
 use Rattle.naga_runs.specs.Judgement.{state_after, judgement}
 use Rattle.naga_runs.specs.PlainRules.{PlainFault, act_points, jump_points, plain_points, read_acts, read_points, PlainRulesGuard}
-use Rattle.naga_runs.specs.Positions.{Node, NoNode, StatementNode, BreakIfNode}
+use Rattle.naga_runs.specs.Positions.{BodyNode, NoNode, StatementNode, BreakIfNode}
 use Rattle.naga_runs.specs.PutsAndUses.{node_acts}
 use Rattle.naga_runs.specs.Soundness.{Fit, Allowed}
 use Rattle.naga_runs.specs.Visits.{Visit}
@@ -41,7 +41,7 @@ points_fit a jump known scope acts e =
 visit_fits : (v : Visit) → first_fault (plain_points v) ≡ None → FitsIn v
 visit_fits v e = points_fit v.place.abilities (node_jump v.node) v.place.must v.place.scope (node_acts v.node) e
 
-read_is : (operands : ℕ → List ℕ) (node : Node) → IsRead operands node → read_acts operands node ≡ node_acts node
+read_is : (operands : ℕ → List ℕ) (node : BodyNode) → IsRead operands node → read_acts operands node ≡ node_acts node
 read_is operands NoNode r = refl
 read_is operands (BreakIfNode h) r = refl
 read_is operands (StatementNode (Leaf acts x span)) r = sym r

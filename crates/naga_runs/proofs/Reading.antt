@@ -16,7 +16,7 @@ use Rattle.naga_runs.specs.Guards.{IsRead, BlocksAreRead}
 use Rattle.naga_runs.specs.Handles.{no_handles}
 use Rattle.naga_runs.specs.Positions.{StatementNode}
 use Rattle.naga_runs.specs.VisitOrder.{positions}
-use Rattle.naga_runs.specs.Visits.{Place, Visit, at_begin, visit_at}
+use Rattle.naga_runs.specs.Visits.{VisitPlace, Visit, at_begin, visit_at}
 use Rattle.naga_runs.proofs.EachOf.{all_append}
 use Rattle.naga_runs.proofs.VisitOrders.{unmap}
 use Rattle.naga_runs.proofs.VisitsByTree.{visits_are}
@@ -80,13 +80,13 @@ module _ (operands : ℕ → List ℕ) where
   own_read (Return v) r = tt
   own_read Kill r = tt
 
-  condition_read : (c : Place) (q : Option ℕ) → AllByRecursion NodeRead (break_if_visits c q)
+  condition_read : (c : VisitPlace) (q : Option ℕ) → AllByRecursion NodeRead (break_if_visits c q)
   condition_read c None = tt
   condition_read c (Some h) = (tt, tt)
 
   -- so has every visit
   mutual
-    visits_read : (b : Body) (c : Place) → BodyRead b → AllByRecursion NodeRead (body_visits c b)
+    visits_read : (b : Body) (c : VisitPlace) → BodyRead b → AllByRecursion NodeRead (body_visits c b)
     visits_read Done c r = tt
     visits_read (Then x b) c r = (
       own_read x r.0,
@@ -94,7 +94,7 @@ module _ (operands : ℕ → List ℕ) where
           (parts_read x c r.0) (visits_read b (past x c) r.1),
     )
 
-    parts_read : (x : Stmt) (c : Place) → StmtRead x → AllByRecursion NodeRead (part_visits c x)
+    parts_read : (x : Stmt) (c : VisitPlace) → StmtRead x → AllByRecursion NodeRead (part_visits c x)
     parts_read (Block b) c r = visits_read b c r
     parts_read (Branch h a e) c r =
         all_append NodeRead (body_visits c a) (body_visits c e) (visits_read a c r.0) (visits_read e c r.1)
@@ -111,7 +111,7 @@ module _ (operands : ℕ → List ℕ) where
     parts_read (Return v) c r = tt
     parts_read Kill c r = tt
 
-    cases_read : (cs : Cases) (c : Place) → CasesRead cs → AllByRecursion NodeRead (case_visits c cs)
+    cases_read : (cs : Cases) (c : VisitPlace) → CasesRead cs → AllByRecursion NodeRead (case_visits c cs)
     cases_read NoCase c r = tt
     cases_read (OneCase v falls b cs) c r =
         all_append NodeRead (body_visits c b) (case_visits c cs) (visits_read b c r.0) (cases_read cs c r.1)

@@ -8,7 +8,7 @@ use Rattle.naga_runs.specs.Abilities.{may_return_from, may_break_from, may_conti
 use Rattle.naga_runs.specs.DeadCode.{has_no_case, goes_on, breaks, continues, list_goes_on, list_breaks, list_continues, cases_go_on, cases_continue, lists_go_on, may_come}
 use Rattle.naga_runs.specs.Machine.{Outcome, Next, Broken, Continued, Returned, Stuck}
 use Rattle.naga_runs.specs.Must.{holds_continue, body_holds_continue, cases_hold_continue, with_sure}
-use Rattle.naga_runs.specs.Positions.{Position, Node, list_below}
+use Rattle.naga_runs.specs.Positions.{Position, BodyNode, list_below}
 use Rattle.naga_runs.specs.PutsAndUses.{acts_of, with_acts, with_body}
 use Rattle.naga_runs.specs.Scope.{with_lists, known_at}
 use Rattle.naga_runs.specs.Soundness.{Allowed}
@@ -41,7 +41,7 @@ in_body S = record S { brk = true; cont = true }
 abbrev pub in_continuing : Body → Setting → Setting
 in_continuing b S = record { must = with_sure S.must b; ret = false; brk = false; cont = false }
 
-abbrev pub AbleAt : Node → Setting → Position → Type 0
+abbrev pub AbleAt : BodyNode → Setting → Position → Type 0
 AbleAt node S p = Allowed (node_jump node) (may_return_from S.ret p) (may_break_from S.brk p)
     (may_continue_from S.cont p)
 

@@ -3,7 +3,7 @@ use Rattle.std.specs.Prelude.{ℕ, zero, suc, true, List, Option, Some, None, Co
 use Rattle.std.proofs.Common.{refl, sym, ap, subst, inl, inr, ◌∙◌}
 use Rattle.ir_statements.specs.Tree.{Stmt, Body, Loop, Done, Then}
 use Rattle.naga_runs.specs.Handles.{Handles, no_handles}
-use Rattle.naga_runs.specs.Positions.{Part, Step, Position, statement_at, list_in, list_below, statement_node, node_at, Root, Inner, Accept, Reject, Case, LoopBody, Continuing, Condition, In, StatementNode}
+use Rattle.naga_runs.specs.Positions.{Part, PositionStep, Position, statement_at, list_in, list_below, statement_node, node_at, Root, Inner, Accept, Reject, Case, LoopBody, Continuing, Condition, In, StatementNode}
 use Rattle.naga_runs.specs.Skipped.{with_rest, with_cut, cuts_below, skipped_from, is_behind_body, count_behind, nth_cut, puts_after, IsSkipped, SkippedIsUnion}
 use Rattle.naga_runs.proofs.Joins.{Joins, joins_none, none_in, body_join, joins_or}
 use Rattle.naga_runs.proofs.Paths.{empty_is, index_of, rest_of, loop_deeper, loop_nearer, statement_is}
@@ -43,7 +43,7 @@ skipped_join (In part i ∷ p) b cuts s =
 
 -- the same where the first step, which may be any, isn't counted
 record Skips (b : Body) (p : Position) (cuts : List (Option ℕ)) (h : ℕ) : Type 0 where
-  first : Step
+  first : PositionStep
   ancestor : Position
   part : Part
   index : ℕ
@@ -119,7 +119,7 @@ module _ (part : Part) (i : ℕ) (b : Body) where
       Skips (list_below (statement_at b i) p) p (cuts_below p cuts) h → Skips b (In part i ∷ p) cuts h
   further_in p cuts h s = go s.first s.inside s.stands
     where
-      go : (first : Step) → p ≡ first ∷ (s.ancestor ++ In s.part s.index ∷ s.rest) →
+      go : (first : PositionStep) → p ≡ first ∷ (s.ancestor ++ In s.part s.index ∷ s.rest) →
           node_at (list_below (statement_at b i) p) (first ∷ s.ancestor) ≡ StatementNode
           (Loop s.body s.continuing s.break_if) → Skips b (In part i ∷ p) cuts h
       go (In q n) inside stands =
@@ -223,7 +223,7 @@ from_skips (In part i ∷ p) b cuts h s =
     s.stands s.cut
   where
     go : (Skips (list_below (statement_at b i) p) p (cuts_below p cuts) h →
-        Along (list_below (statement_at b i) p) p (cuts_below p cuts) h) → (first : Step)
+        Along (list_below (statement_at b i) p) p (cuts_below p cuts) h) → (first : PositionStep)
         (ancestor : Position) → In part i ∷ p ≡ first ∷ (ancestor ++ In s.part s.index ∷ s.rest) →
         node_at b (first ∷ ancestor) ≡ StatementNode (Loop s.body s.continuing s.break_if) → nth_cut cuts
         (count_behind ancestor) ≡ Some s.k → Along b (In part i ∷ p) cuts h
@@ -242,7 +242,7 @@ to_word : (b : Body) (i : ℕ) (p : Position) (cuts : List (Option ℕ)) (h : �
     IsSkipped b (In Root i ∷ p) cuts h
 to_word b i p cuts h s = go s.first s.inside s.stands
   where
-    go : (first : Step) → In Root i ∷ p ≡ first ∷ (s.ancestor ++ In s.part s.index ∷ s.rest) →
+    go : (first : PositionStep) → In Root i ∷ p ≡ first ∷ (s.ancestor ++ In s.part s.index ∷ s.rest) →
         node_at b (first ∷ s.ancestor) ≡ StatementNode (Loop s.body s.continuing s.break_if) → IsSkipped b
         (In Root i ∷ p) cuts h
     go (In q n) inside stands =

@@ -5,9 +5,9 @@ use Rattle.std.proofs.Common.{refl, sym, ap, subst, arith, inl, inr}
 use Rattle.ir_statements.specs.Tree.{Stmt, Body, Cases, Leaf, Block, Branch, Switch, Loop, Break, Continue, Return, Kill, Done, Then, NoCase, OneCase}
 use Rattle.naga_runs.specs.ByTree.{past, in_case, in_loop, in_continuing, at_break_if, break_if_visits, body_visits, part_visits, case_visits}
 use Rattle.naga_runs.specs.Handles.{no_handles}
-use Rattle.naga_runs.specs.Positions.{Part, Step, Position, node_at, Root, Inner, Accept, Reject, Case, LoopBody, Continuing, Condition, In, NoNode}
+use Rattle.naga_runs.specs.Positions.{Part, PositionStep, Position, node_at, Root, Inner, Accept, Reject, Case, LoopBody, Continuing, Condition, In, NoNode}
 use Rattle.naga_runs.specs.VisitOrder.{condition_positions, positions_from, positions_below, positions_of_cases, positions, rank_of, IsBefore, IsInOrder, StartsAtRoot, PositionsAreVisits, LiesIn, EarlierPart, LowerIndex}
-use Rattle.naga_runs.specs.Visits.{Place, Visit, at_begin, visit_at}
+use Rattle.naga_runs.specs.Visits.{VisitPlace, Visit, at_begin, visit_at}
 use Rattle.naga_runs.proofs.EachOf.{all_append, all_mono}
 use Rattle.naga_runs.proofs.EveryPosition.{at_every}
 use Rattle.naga_runs.proofs.Laws.{all_listed}
@@ -35,18 +35,18 @@ record GoesInCase (from : ℕ) (p : Position) : Type 0 where
 
 -- one that goes on
 record GoesOn (p : Position) : Type 0 where
-  step : Step
+  step : PositionStep
   rest : Position
   is : p ≡ step ∷ rest
 
-lift : (step : Step) (p q : Position) → IsBefore p q → IsBefore (step ∷ p) (step ∷ q)
+lift : (step : PositionStep) (p q : Position) → IsBefore p q → IsBefore (step ∷ p) (step ∷ q)
 lift step p q (LiesIn s r e) = LiesIn s r (ap (λ l. step ∷ l) e)
 lift step p q (EarlierPart a x y i j r s e f lt) = EarlierPart (step ∷ a) x y i j r s (ap (λ l. step ∷ l) e)
     (ap (λ l. step ∷ l) f) lt
 lift step p q (LowerIndex a part i j r s e f lt) = LowerIndex (step ∷ a) part i j r s (ap (λ l. step ∷ l) e)
     (ap (λ l. step ∷ l) f) lt
 
-lifted : (step : Step) (ps : List Position) → IsInOrder ps → IsInOrder (map (λ p. step ∷ p) ps)
+lifted : (step : PositionStep) (ps : List Position) → IsInOrder ps → IsInOrder (map (λ p. step ∷ p) ps)
 lifted step [] o = tt
 lifted step (p ∷ ps) o = (
   all_map (λ q. IsBefore (step ∷ p) q) (λ q. step ∷ q) ps
@@ -134,11 +134,11 @@ by_part : (x y : Part) (i j : ℕ) → rank_of x < rank_of y → (p q : Position
 by_part x y i j lt p q g h = EarlierPart [] x y g.index h.index g.rest h.rest g.is h.is lt
 
 -- what a step leads to
-record Behind (step : Step) (p : Position) : Type 0 where
+record Behind (step : PositionStep) (p : Position) : Type 0 where
   rest : Position
   is : p ≡ step ∷ rest
 
-all_behind : (step : Step) (ps : List Position) → AllByRecursion (Behind step) (map (λ p. step ∷ p) ps)
+all_behind : (step : PositionStep) (ps : List Position) → AllByRecursion (Behind step) (map (λ p. step ∷ p) ps)
 all_behind step [] = tt
 all_behind step (p ∷ ps) = (record { rest = p; is = refl }, all_behind step ps)
 
@@ -201,12 +201,12 @@ mutual
 abbrev Stood : Visit → Type 0
 Stood v = v.node ≢ NoNode
 
-condition_stood : (c : Place) (q : Option ℕ) → AllByRecursion Stood (break_if_visits c q)
+condition_stood : (c : VisitPlace) (q : Option ℕ) → AllByRecursion Stood (break_if_visits c q)
 condition_stood c None = tt
 condition_stood c (Some h) = (λ e. cc, tt)
 
 mutual
-  body_stood : (b : Body) (c : Place) → AllByRecursion Stood (body_visits c b)
+  body_stood : (b : Body) (c : VisitPlace) → AllByRecursion Stood (body_visits c b)
   body_stood Done c = tt
   body_stood (Then x b) c = (
     λ e. cc,
@@ -214,7 +214,7 @@ mutual
         (body_stood b (past x c)),
   )
 
-  parts_stood : (x : Stmt) (c : Place) → AllByRecursion Stood (part_visits c x)
+  parts_stood : (x : Stmt) (c : VisitPlace) → AllByRecursion Stood (part_visits c x)
   parts_stood (Block b) c = body_stood b c
   parts_stood (Branch h a r) c = all_append Stood (body_visits c a) (body_visits c r) (body_stood a c)
       (body_stood r c)
@@ -230,7 +230,7 @@ mutual
   parts_stood (Return v) c = tt
   parts_stood Kill c = tt
 
-  cases_stood : (cs : Cases) (c : Place) → AllByRecursion Stood (case_visits c cs)
+  cases_stood : (cs : Cases) (c : VisitPlace) → AllByRecursion Stood (case_visits c cs)
   cases_stood NoCase c = tt
   cases_stood (OneCase v falls b cs) c =
       all_append Stood (body_visits c b) (case_visits c cs) (body_stood b c) (cases_stood cs c)

@@ -8,7 +8,7 @@ use Rattle.naga_runs.specs.Positions.{Part, Position, case_at, list_below, node_
 use Rattle.naga_runs.specs.PutsAndUses.{with_body}
 use Rattle.naga_runs.specs.Scope.{with_lists, known_at}
 use Rattle.naga_runs.specs.VisitOrder.{condition_positions, positions_from, positions_below, positions_of_cases}
-use Rattle.naga_runs.specs.Visits.{Place, Visit, abilities_from, place_from, at_begin, visit_at}
+use Rattle.naga_runs.specs.Visits.{VisitPlace, Visit, abilities_from, place_from, at_begin, visit_at}
 
 pub map-append : {A B : Type 0} (f : A → B) (xs ys : List A) → map f (xs ++ ys) ≡ map f xs ++ map f ys
 map-append f [] ys = refl
@@ -19,7 +19,7 @@ map-map f g [] = refl
 map-map f g (x ∷ xs) = ap (λ zs. f (g x) ∷ zs) (map-map f g xs)
 
 -- the visit at the rest of a position below a statement
-abbrev in_stmt : Stmt → Place → Position → Visit
+abbrev in_stmt : Stmt → VisitPlace → Position → Visit
 in_stmt x c p =
     record {
       place = record {
@@ -31,11 +31,11 @@ in_stmt x c p =
     }
 
 -- at an index of a list, and below what stands there
-abbrev in_list : Body → Place → ℕ → Position → Visit
+abbrev in_list : Body → VisitPlace → ℕ → Position → Visit
 in_list b c j p = record { place = place_from c b (In Root j ∷ p); node = node_at b (In Root j ∷ p) }
 
 -- at a statement itself
-here_is : (x : Stmt) (c : Place) → in_stmt x c [] ≡ record { place = c; node = StatementNode x }
+here_is : (x : Stmt) (c : VisitPlace) → in_stmt x c [] ≡ record { place = c; node = StatementNode x }
 here_is (Leaf acts x' sp) c = refl
 here_is (Block b) c = refl
 here_is (Branch h a r) c = refl
@@ -46,21 +46,21 @@ here_is Continue c = refl
 here_is (Return v) c = refl
 here_is Kill c = refl
 
-break_if_is : (b d : Body) (q : Option ℕ) (G : Position → Visit) (c : Place) →
+break_if_is : (b d : Body) (q : Option ℕ) (G : Position → Visit) (c : VisitPlace) →
     ((p : Position) → G p ≡ in_stmt (Loop b d q) c p) →
     map G (condition_positions q) ≡ break_if_visits (at_break_if b d c) q
 break_if_is b d None G c says = refl
 break_if_is b d (Some h) G c says = ap (λ v. v ∷ []) (says (In Condition 0 ∷ []))
 
 -- what is said of a whole list
-from_zero : (b : Body) (part : Part) (G : Position → Visit) (c : Place) →
+from_zero : (b : Body) (part : Part) (G : Position → Visit) (c : VisitPlace) →
     ((j : ℕ) (p : Position) → G (In part j ∷ p) ≡ in_list b c j p) → (j : ℕ) (p : Position) →
     G (In part (0 + j) ∷ p) ≡ in_list b c j p
 from_zero b part G c says j p = let same : 0 + j ≡ j = omega arith in ap (λ n. G (In part n ∷ p)) same ∙ says j p
 
 mutual
   -- a list whose first statement has index i
-  body_is : (b : Body) (part : Part) (i : ℕ) (G : Position → Visit) (c : Place) →
+  body_is : (b : Body) (part : Part) (i : ℕ) (G : Position → Visit) (c : VisitPlace) →
       ((j : ℕ) (p : Position) → G (In part (i + j) ∷ p) ≡ in_list b c j p) →
       map G (positions_from part i b) ≡ body_visits c b
   body_is Done part i G c says = refl
@@ -79,7 +79,7 @@ mutual
       ∙ ap (λ vs. part_visits c x ++ vs) rest
       )
 
-  parts_are : (x : Stmt) (G : Position → Visit) (c : Place) → ((p : Position) → G p ≡ in_stmt x c p) →
+  parts_are : (x : Stmt) (G : Position → Visit) (c : VisitPlace) → ((p : Position) → G p ≡ in_stmt x c p) →
       map G (positions_below x) ≡ part_visits c x
   parts_are (Block b) G c says = body_is b Inner 0 G c (from_zero b Inner G c (λ j p. says (In Inner j ∷ p)))
   parts_are (Branch h a r) G c says =
@@ -110,7 +110,7 @@ mutual
   parts_are Kill G c says = refl
 
   -- cases, of which the first is case k
-  cases_are : (cs : Cases) (k : ℕ) (G : Position → Visit) (c : Place) →
+  cases_are : (cs : Cases) (k : ℕ) (G : Position → Visit) (c : VisitPlace) →
       ((m j : ℕ) (p : Position) → G (In (Case (k + m)) j ∷ p) ≡ in_list (case_at cs m) c j p) → map G
       (positions_of_cases k cs) ≡ case_visits c cs
   cases_are NoCase k G c says = refl

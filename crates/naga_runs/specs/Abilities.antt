@@ -3,7 +3,7 @@ use Rattle.std.specs.List.{list_any}
 use Rattle.std.specs.Option.{option_or}
 use Rattle.std.specs.Prelude.{Bool, true, false, not, Option, Some, None, ◌≡◌, ◌∷◌, if◌then◌else◌, []}
 use Rattle.ir_statements.specs.Tree.{Stmt, Break, Continue, Return, Leaf, Block, Branch, Switch, Loop, Kill}
-use Rattle.naga_runs.specs.Positions.{Part, Step, Position, Node, Case, LoopBody, Continuing, In, StatementNode}
+use Rattle.naga_runs.specs.Positions.{Part, PositionStep, Position, BodyNode, Case, LoopBody, Continuing, In, StatementNode}
 
 -- Return is allowed where no step is a continuing part.
 abbrev pub may_return_from : Bool → Position → Bool
@@ -35,7 +35,7 @@ may_break p = may_break_from false p
 abbrev pub may_continue : Position → Bool
 may_continue p = may_continue_from false p
 
-abbrev pub part_of : Step → Part
+abbrev pub part_of : PositionStep → Part
 part_of (In part i) = part
 
 -- the last part of a position's steps that passes a test
@@ -85,6 +85,6 @@ jump_of (Switch h cases) = NoJump
 jump_of (Loop b c q) = NoJump
 jump_of Kill = NoJump
 
-abbrev pub node_jump : Node → Jump
+abbrev pub node_jump : BodyNode → Jump
 node_jump (StatementNode x) = jump_of x
 node_jump _ = NoJump

@@ -8,7 +8,7 @@ use Rattle.naga_runs.specs.Abilities.{node_jump}
 use Rattle.naga_runs.specs.Handles.{Handles}
 use Rattle.ir_arena.specs.Points.{first_fault}
 use Rattle.naga_runs.specs.Judgement.{Rules, judgement}
-use Rattle.naga_runs.specs.Positions.{Node, NoNode, StatementNode, BreakIfNode, node_at}
+use Rattle.naga_runs.specs.Positions.{BodyNode, NoNode, StatementNode, BreakIfNode, node_at}
 use Rattle.naga_runs.specs.PutsAndUses.{node_acts}
 use Rattle.naga_runs.specs.Soundness.{Fit, Allowed, IsSurelyFit, RunsAreSure}
 use Rattle.naga_runs.specs.VisitOrder.{positions}
@@ -34,7 +34,7 @@ AcceptedIsSure {State} {Fault} R =
     judgement R st pre b ≡ Ok end → IsSurelyFit pre b × RunsAreSure pre b
 
 -- what stands there has the acts that are read off its statement, where these are the operands of each expression
-abbrev pub IsRead : (ℕ → List ℕ) → Node → Type 0
+abbrev pub IsRead : (ℕ → List ℕ) → BodyNode → Type 0
 IsRead operands (StatementNode (Leaf acts x span)) = acts ≡ statement_acts operands x
 IsRead operands (StatementNode (Nested b)) = ⊤
 IsRead operands (StatementNode (Branch h a e)) = ⊤

@@ -7,7 +7,7 @@ use Rattle.naga_runs.specs.Guards.{SurelyGuards, SurelyReadGuards}
 use Rattle.naga_runs.specs.Handles.{Handles, with_handle}
 use Rattle.ir_arena.specs.Points.{Point}
 use Rattle.naga_runs.specs.Judgement.{Rules, judgement}
-use Rattle.naga_runs.specs.Positions.{Node, StatementNode}
+use Rattle.naga_runs.specs.Positions.{BodyNode, StatementNode}
 use Rattle.naga_runs.specs.PutsAndUses.{node_acts}
 use Rattle.naga_runs.specs.Samples.{given, skipping_loop, sure_loop}
 use Rattle.naga_runs.specs.Visits.{Visit}
@@ -41,7 +41,7 @@ abbrev pub plain_rules : Rules ℕ PlainFault
 plain_rules = record { points = λ n v. plain_points v; advance = λ n v. suc n }
 
 -- the acts that are read off the statement itself, where these are the operands of each expression
-abbrev pub read_acts : (ℕ → List ℕ) → Node → List Act
+abbrev pub read_acts : (ℕ → List ℕ) → BodyNode → List Act
 read_acts operands (StatementNode (Leaf acts x span)) = statement_acts operands x
 read_acts operands node = node_acts node
 

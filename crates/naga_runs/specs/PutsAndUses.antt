@@ -3,7 +3,7 @@ use Rattle.std.specs.Prelude.{ℕ, List, ◌∷◌, ◌++◌, []}
 use Rattle.ir_statements.specs.Tree.{Act, Stmt, Body, Use, Put, Leaf, Branch, Switch, Return, Done, Then, Block, Loop, Break, Continue, Kill}
 use Rattle.ir_statements.specs.View.{used_if}
 use Rattle.naga_runs.specs.Handles.{Handles, with_handle}
-use Rattle.naga_runs.specs.Positions.{Node, NoNode, StatementNode, BreakIfNode}
+use Rattle.naga_runs.specs.Positions.{BodyNode, NoNode, StatementNode, BreakIfNode}
 
 -- The acts of a statement in order. An If uses its condition, a Switch its selector, a Return its value if it has
 -- one; Block, Loop, Break, Continue and Kill do nothing themselves. Every other kind is a leaf of the tree, which has
@@ -20,7 +20,7 @@ acts_of Continue = []
 acts_of Kill = []
 
 -- A break condition uses its one handle.
-abbrev pub node_acts : Node → List Act
+abbrev pub node_acts : BodyNode → List Act
 node_acts NoNode = []
 node_acts (StatementNode x) = acts_of x
 node_acts (BreakIfNode h) = Use h ∷ []

@@ -4,11 +4,11 @@ use Rattle.std.specs.Prelude.{ℕ, zero, suc, Bool, true, false, List, Option, S
 use Rattle.ir_statements.specs.Tree.{Stmt, Body, Cases, Block, Branch, Switch, Loop, Done, Then, NoCase, OneCase, Leaf, Break, Continue, Return, Kill}
 use Rattle.naga_runs.specs.Handles.{Handles}
 use Rattle.naga_runs.specs.Machine.{Run, run_stmt, run_body, Next, Continued, Ran}
-use Rattle.naga_runs.specs.Positions.{Part, Position, Node, Root, Inner, Accept, Reject, Case, LoopBody, Continuing, Condition, In, StatementNode, BreakIfNode}
+use Rattle.naga_runs.specs.Positions.{Part, Position, BodyNode, Root, Inner, Accept, Reject, Case, LoopBody, Continuing, Condition, In, StatementNode, BreakIfNode}
 
 -- What stands there, where, the cuts that an event there has, and what is live as the run comes there.
 pub record Arrival : Type 0 where
-  pub node : Node
+  pub node : BodyNode
   pub position : Position
   pub cuts : List (Option ℕ)
   pub live : Handles

@@ -3,7 +3,7 @@
 use Rattle.std.specs.List.{AllByRecursion}
 use Rattle.std.specs.Prelude.{⊤, ℕ, suc, List, Option, Some, None, map, Contains, ◌≡◌, ◌≢◌, ◌↔◌, ◌∷◌, ◌++◌, [], ◌<◌}
 use Rattle.ir_statements.specs.Tree.{Stmt, Body, Cases, Block, Branch, Switch, Loop, Done, Then, NoCase, OneCase, Leaf, Break, Continue, Return, Kill}
-use Rattle.naga_runs.specs.Positions.{Part, Step, Position, node_at, Root, Inner, Accept, Reject, Case, LoopBody, Continuing, Condition, In, NoNode}
+use Rattle.naga_runs.specs.Positions.{Part, PositionStep, Position, node_at, Root, Inner, Accept, Reject, Case, LoopBody, Continuing, Condition, In, NoNode}
 
 abbrev pub condition_positions : Option ℕ → List Position
 condition_positions None = []
@@ -48,7 +48,7 @@ rank_of _ = 0
 -- Visit order word by word: p comes before q where q lies in p; or where, going in from a position that both lie in, p
 -- goes on in an earlier part, or in the same part at a lower index.
 pub data IsBefore (p q : Position) : Type 0 where
-  LiesIn : (step : Step) (r : Position) → q ≡ p ++ step ∷ r → IsBefore p q
+  LiesIn : (step : PositionStep) (r : Position) → q ≡ p ++ step ∷ r → IsBefore p q
   EarlierPart : (a : Position) (x y : Part) (i j : ℕ) (r s : Position) →
       p ≡ a ++ In x i ∷ r → q ≡ a ++ In y j ∷ s → rank_of x < rank_of y → IsBefore p q
   LowerIndex : (a : Position) (part : Part) (i j : ℕ) (r s : Position) →

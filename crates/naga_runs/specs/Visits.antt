@@ -4,22 +4,22 @@ use Rattle.ir_statements.specs.Tree.{Body}
 use Rattle.naga_runs.specs.Handles.{Handles}
 use Rattle.naga_runs.specs.Abilities.{may_return_from, may_break_from, may_continue_from}
 use Rattle.naga_runs.specs.Must.{with_sure}
-use Rattle.naga_runs.specs.Positions.{Position, Node, node_at}
+use Rattle.naga_runs.specs.Positions.{Position, BodyNode, node_at}
 use Rattle.naga_runs.specs.PutsAndUses.{with_body}
 use Rattle.naga_runs.specs.Scope.{known_at}
 use Rattle.naga_runs.specs.VisitOrder.{positions}
 use Rattle.naga_runs.specs.declared.Abilities.{Abilities}
 
 -- which jumps are allowed, which handles are in scope, and which every run has put
-pub record Place : Type 0 where
+pub record VisitPlace : Type 0 where
   pub abilities : Abilities
   pub scope : Handles
   pub must : Handles
 
 -- a statement or a break condition, at its place
 pub record Visit : Type 0 where
-  pub place : Place
-  pub node : Node
+  pub place : VisitPlace
+  pub node : BodyNode
 
 -- the abilities at a position below a place that has these
 abbrev pub abilities_from : Abilities → Position → Abilities
@@ -31,7 +31,7 @@ abilities_from a p =
     }
 
 -- the place at a position of a list that begins with this place
-abbrev pub place_from : Place → Body → Position → Place
+abbrev pub place_from : VisitPlace → Body → Position → VisitPlace
 place_from c b p =
     record {
       abilities = abilities_from c.abilities p;
@@ -40,7 +40,7 @@ place_from c b p =
     }
 
 -- where the body of a function begins: Return is allowed, Break and Continue are not, `pre` needs no emission
-abbrev pub at_begin : Handles → Place
+abbrev pub at_begin : Handles → VisitPlace
 at_begin pre =
     record {
       abilities = record { can_return = true; can_break = false; can_continue = false };

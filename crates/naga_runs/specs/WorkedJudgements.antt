@@ -4,7 +4,7 @@ use Rattle.std.specs.Prelude.{ℕ, suc, true, false, not, Some, None, Result, Ok
 use Rattle.ir_statements.specs.Tree.{Body, Use, Put, Block, Branch, Switch, Loop, Break, Continue, Return, Kill, Done, Then, NoCase, OneCase}
 use Rattle.naga_runs.specs.Judgement.{Rules, judgement}
 use Rattle.naga_runs.specs.PlainRules.{PlainFault, plain_rules, NotInScope, AlreadyInScope, BreakOutside, ContinueOutside, ReturnInContinuing}
-use Rattle.naga_runs.specs.Positions.{Node, StatementNode, BreakIfNode}
+use Rattle.naga_runs.specs.Positions.{BodyNode, StatementNode, BreakIfNode}
 use Rattle.naga_runs.specs.Samples.{given, emits, emit, emit_5, emit_6, reads, one, may_continue_here, only_default, siblings, whole_loop}
 
 -- the answer: the first fault, else the number of visits
@@ -114,7 +114,7 @@ pub record SureRows : Type 0 where
       ≡ Err (NotInScope 5)
 
 -- refuses the visit that has so many before it, and reports what stands there
-abbrev pub refuse_at : ℕ → Rules ℕ Node
+abbrev pub refuse_at : ℕ → Rules ℕ BodyNode
 refuse_at k = record { points = λ n v. (not (n == k), v.node) ∷ []; advance = λ n v. suc n }
 
 -- The state at a visit is that of the visits before it.

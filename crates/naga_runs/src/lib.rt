@@ -4,7 +4,7 @@
 //! computes here is `Abilities`: which jumps the parts of a body allow.
 #![tactic(auto)]
 
-pub mod worked;
+mod worked;
 
 ghost use Rattle.naga_runs.specs.Abilities.{AbilitiesByLastStep};
 ghost use Rattle.naga_runs.specs.VisitOrder.{PositionsAreVisits};
@@ -20,6 +20,11 @@ ghost use Rattle.naga_runs.specs.Guards.{AcceptedIsSure, AcceptedBlockIsSure, Bl
 ghost use Rattle.naga_runs.specs.PlainRules.{PlainRulesGuard};
 ghost use Rattle.naga_runs.specs.Witnesses.{UsesAreWitnessed, JumpsAreWitnessed, FaultIsOfAVisit};
 ghost use Rattle.naga_runs.specs.SkippedEmission.{SkippedIsUsed, PutIsUsed, StopsAtTurnTwo, SkippingLoopIsNotSure, SureLoopIsSurelyFit};
+
+pub use crate::worked::{
+    worked_abilities, worked_acts, worked_continues, worked_judgements, worked_musts,
+    worked_positions, worked_runs, worked_scopes, worked_skips,
+};
 
 /// Which jumps a place in a body allows: a `Return`, a `Break`, a `Continue`.
 #[derive(Clone, Copy, PartialEq, Eq, Debug)]

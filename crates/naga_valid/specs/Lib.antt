@@ -26,4 +26,4 @@ unfoldable pub use Rattle.check_laws.specs.EntryJudgement.{entry_judgement}
 pub use Rattle.check_entry.specs.EntryFaults.{fault_of}
 pub use Rattle.check_laws.specs.Chains.{NoneIsVetted, OneMoreIsVetted, CallsOfFittingAreBelow}
 pub use Rattle.check_laws.specs.FunctionRefusals.{RefusedUseIsWitnessed, RefusedJumpIsStuck}
-pub use Rattle.check_statement.specs.ValidatorParts.{Parts, first_settings, no_traces}
+pub use Rattle.check_statement.specs.ValidatorParts.{ValidatorParts, first_settings, no_traces}

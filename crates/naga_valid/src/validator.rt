@@ -1,7 +1,7 @@
 //! The validator of functions.
 
 ghost use Rattle.std.specs.Prelude.{◌≡◌, ◌↔◌, IsTrue, []};
-ghost use Rattle.check_statement.specs.ValidatorParts.{Parts, infos_given, first_settings, no_traces};
+ghost use Rattle.check_statement.specs.ValidatorParts.{ValidatorParts, infos_given, first_settings, no_traces};
 ghost use Rattle.check_entry.specs.GivenInfos.{NamesTypes, AreInfosOf};
 
 mod entry;
@@ -37,7 +37,7 @@ pub struct Validator<B> {
 }
 
 impl<B> Model for Validator<B> {
-    ghost Value = { Parts B };
+    ghost Value = { ValidatorParts B };
 
     ghost view = { λ v. record { below = v.below; settings = v.settings; types = infos_given v.types; trace = v.trace } };
 }

@@ -149,7 +149,7 @@ impl Reader {
 
     /// Closes the Switch at hand.
     #[tactic(auto, using(crate::proofs::Reading::Stack::stacks), unfolding(crate::specs::Reading::close_switch))]
-    pub fn close_switch(&mut self) -> Result<(), CaseError>
+    pub(crate) fn close_switch(&mut self) -> Result<(), CaseError>
         ensures { Moves (λ opened _. close_switch opened) self.old result self.new }
     {
         let Some(Frame { kind, outer }) = self.opened.pop() else {
@@ -166,7 +166,7 @@ impl Reader {
 
     /// Ends the Loop at hand.
     #[tactic(auto, using(crate::proofs::Reading::Stack::stacks), unfolding(crate::specs::Reading::end_loop))]
-    pub fn end_loop(&mut self, break_if: Option<u8>) -> Result<(), CaseError>
+    pub(crate) fn end_loop(&mut self, break_if: Option<u8>) -> Result<(), CaseError>
         ensures { Moves (λ opened list. end_loop opened list break_if) self.old result self.new }
     {
         let Some(Frame { kind, outer }) = self.opened.pop() else {

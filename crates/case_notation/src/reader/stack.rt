@@ -57,7 +57,7 @@ impl Reader {
 
     /// Says what is wanted next.
     #[inline(always)]
-    pub fn want(&mut self, wants: Wants) -> Result<(), CaseError>
+    pub(crate) fn want(&mut self, wants: Wants) -> Result<(), CaseError>
         ensures { Moves (λ opened list. wanting opened list wants) self.old result self.new }
     {
         self.wants = wants;
@@ -66,7 +66,7 @@ impl Reader {
 
     /// Takes the list at hand, and leaves another one.
     #[inline(always)]
-    pub fn change_list(&mut self, list: Sequence<Located>) -> Sequence<Located>
+    pub(crate) fn change_list(&mut self, list: Sequence<Located>) -> Sequence<Located>
         ensures taken { result ≡ (state_of self.old).list }
         ensures rest { state_of self.new ≡ record (state_of self.old) { list = list } }
     {
@@ -75,7 +75,7 @@ impl Reader {
 
     /// Takes the list at hand, and leaves an empty one.
     #[inline(always)]
-    pub fn take_list(&mut self) -> Sequence<Located>
+    pub(crate) fn take_list(&mut self) -> Sequence<Located>
         ensures taken { result ≡ (state_of self.old).list }
         ensures rest { state_of self.new ≡ record (state_of self.old) { list = [] } }
     {

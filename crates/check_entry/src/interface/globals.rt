@@ -11,9 +11,7 @@ ghost use Rattle.ir_facts.specs.Answers.{Answers, Finds, FirstOf, read_by};
 
 use crate::answers::answer;
 use crate::bindings::{binding_holds, check_binding};
-use crate::globals::{
-    check_allowed, check_immediates, is_task_payload, is_used_immediate, use_holds, uses_of,
-};
+use crate::globals::{check_allowed, check_immediates, is_used_immediate, use_holds, uses_of};
 use crate::interface::InterfaceContext;
 use bitflags::Flags;
 use check_faults::entry::EntryPointError;
@@ -38,7 +36,7 @@ impl<'a, B: Below> InterfaceContext<'a, B> {
         ensures { Finds (FirstOf (used_payload_points self.now.entry_point.now.task_payload
             ((B.meaning self.now.below.now).size_of self.now.program.now var.now.ty) handle var.now.space)) result }
     {
-        if !is_task_payload(var.space) {
+        if !var.space.is_task_payload() {
             return Ok(());
         }
         if self.entry_point.task_payload != Some(handle) {

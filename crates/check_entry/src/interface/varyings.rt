@@ -4,25 +4,22 @@ ghost use Rattle.std.specs.Prelude.{◌≡◌, ◌<◌, ◌∷◌, None, OnOk, t
 ghost use Rattle.ir_facts.specs.Fits.{FitsTypes, FitsEntry};
 ghost use Rattle.ir_facts.specs.FitsBody.{SignatureFits};
 ghost use Rattle.ir_arena.specs.Points.{within};
-ghost use Rattle.ir_types.specs.TypeTests.{it_is};
+ghost use Rattle.ir_types.specs.TypeTests.{is_struct, it_is};
 ghost use Rattle.ir_types.specs.Types.{inner_at};
 ghost use Rattle.ir_leaves.specs.declared.built_in.BuiltIn.TheVariants.{Position};
 ghost use Rattle.check_varyings.specs.Varyings.{nothing_seen, parts_of, placed_parts, points_from, seen_at, seen_in, seen_with};
 ghost use Rattle.check_varyings.specs.declared.varying.MeshOutputType.TheVariants as which;
 ghost use Rattle.check_entry.specs.EntryFaults.{OfArgument, OfResult, Other, fault_of};
 ghost use Rattle.check_entry.specs.Mesh.{mesh_points};
-ghost use Rattle.check_entry.specs.EntryVaryings.{argument_points, declared_points, has_built_in, is_struct, output_item, outputs_points, place_of, primitive_points, result_parts, result_points, vertex_points};
+ghost use Rattle.check_entry.specs.EntryVaryings.{argument_points, declared_points, has_built_in, output_item, outputs_points, place_of, primitive_points, result_parts, result_points, vertex_points};
 ghost use Rattle.check_entry.specs.GivenInfos.{AreInfosOf};
 ghost use Rattle.check_faults.specs.declared.entry.EntryPointError.TheVariants as fault;
 ghost use Rattle.ir_facts.specs.Answers.{Answers, FirstOf, read_by};
 
 use crate::answers::answer;
-use crate::globals::inner_at;
 use crate::interface::InterfaceContext;
 use crate::mesh::check_variable;
-use crate::varyings::{
-    argument_refused, check_returned, has_one_of_indices, is_struct, result_refused,
-};
+use crate::varyings::{argument_refused, check_returned, has_one_of_indices, result_refused};
 use check_faults::entry::EntryPointError;
 use check_varyings::item::{check_varying_item, take_at_once};
 use check_varyings::varying::{MeshOutputType, VaryingPlace, VaryingState};
@@ -32,6 +29,7 @@ use ir_facts::below::Below;
 use ir_leaves::built_in::BuiltIn;
 use ir_module::functions::FunctionArgument;
 use ir_module::module::MeshStageInfo;
+use ir_types::type_methods::{inner_at, is_struct};
 
 impl<'a, B: Below> InterfaceContext<'a, B> {
     /// Where an input or an output of an entry point stands.
@@ -198,7 +196,7 @@ impl<'a, B: Below> InterfaceContext<'a, B> {
         ensures seen { OnOk result (seen_in state.new ≡ seen_with (seen_in state.old)
             (parts_of self.now.program.now.types self.now.infos.now ty None)) }
     {
-        if !is_struct(inner_at(self.program, ty)) {
+        if !is_struct(inner_at(self.program.types.as_slice(), ty)) {
             return Err(Refused::unplaced(self.alloc, EntryPointError::InvalidMeshOutputType));
         }
         let place = self.place_of(true, mesh_output);

@@ -1,7 +1,7 @@
 -- The handles that an Emit puts in scope, and the place where it stands.
 use Rattle.std.specs.Prelude.{ℕ, zero, suc, ◌-◌, List, [], ◌∷◌}
 use Rattle.check_scope.specs.walk.Place.{Sets, place_at}
-use Rattle.naga_runs.specs.Visits.{Place}
+use Rattle.naga_runs.specs.Visits.{VisitPlace}
 use Rattle.naga_runs.specs.declared.Abilities.{Abilities}
 
 -- n handles from the first on
@@ -14,5 +14,5 @@ abbrev pub handles_between : ℕ → ℕ → List ℕ
 handles_between start end = handles_from start (end - start)
 
 -- a place with these abilities
-abbrev pub place : Abilities → Sets → Place
+abbrev pub place : Abilities → Sets → VisitPlace
 place abilities scope = record (place_at scope) { abilities = abilities }

@@ -6,7 +6,7 @@ use Rattle.ir_statements.specs.Tree.{Cases}
 use Rattle.ir_statements.specs.declared.operations.SwitchValue.{SwitchValue}
 use Rattle.ir_statements.specs.declared.operations.SwitchValue.TheVariants.{I32, U32, Default}
 use Rattle.ir_errors.specs.declared.function.FunctionError.TheVariants.{InvalidSwitchType, MissingDefaultCase, LastCaseFallTrough}
-use Rattle.naga_runs.specs.Visits.{Place}
+use Rattle.naga_runs.specs.Visits.{VisitPlace}
 use Rattle.check_scope.specs.Context.{Context}
 use Rattle.check_flow.specs.Switch.{is_default, values_of, last_falls_through}
 use Rattle.check_scope.specs.ScopePoints.{Points, use_point}
@@ -14,7 +14,7 @@ use Rattle.check_flow.specs.declared.switch.Rising.{Rising}
 use Rattle.check_scope.specs.ExpressionTypes.{is_integer_kind, scalar_kind_at}
 
 -- the selector
-abbrev pub selector_points : Context → Place → ℕ → Points
+abbrev pub selector_points : Context → VisitPlace → ℕ → Points
 selector_points context place h =
     use_point place h ∷ (is_integer_kind (scalar_kind_at context h), InvalidSwitchType h) ∷ []
 

@@ -10,7 +10,7 @@ use Rattle.ir_errors.specs.declared.expression.ExpressionError.{ExpressionError}
 use Rattle.ir_errors.specs.declared.expression.ExpressionError.TheVariants as wrong
 use Rattle.ir_errors.specs.declared.function.FunctionError.{FunctionError}
 use Rattle.ir_errors.specs.declared.function.FunctionError.TheVariants.{InvalidImageAtomic, InvalidImageStore, InvalidImageAtomicValue, InvalidStoreValue}
-use Rattle.naga_runs.specs.Visits.{Place}
+use Rattle.naga_runs.specs.Visits.{VisitPlace}
 use Rattle.check_scope.specs.Context.{Context}
 use Rattle.check_resources.specs.ImageAtomic.{change_point, takes_atomics, format_points}
 use Rattle.check_resources.specs.Image.{is_element_at, image_global_at, image_global, is_image, is_storage_class, stored_format, stored_access, is_coordinate, array_index_points}
@@ -26,20 +26,20 @@ image_fault by.Store error = InvalidImageStore error
 image_fault by.Atomic error = InvalidImageAtomic error
 
 -- the coordinate
-abbrev pub coordinate_points : ImageStatement → Context → Place → ImageDimension → ℕ → Points
+abbrev pub coordinate_points : ImageStatement → Context → VisitPlace → ImageDimension → ℕ → Points
 coordinate_points statement context place dim coordinate =
     use_point place coordinate
     ∷ (is_coordinate context dim coordinate, image_fault statement (wrong.InvalidImageCoordinateType dim coordinate))
     ∷ []
 
 -- which texel: its coordinate and its array index
-abbrev pub texel_points : ImageStatement → Context → Place → ImageDimension → Bool → ℕ → Option ℕ → Points
+abbrev pub texel_points : ImageStatement → Context → VisitPlace → ImageDimension → Bool → ℕ → Option ℕ → Points
 texel_points statement context place dim arrayed coordinate array_index =
     coordinate_points statement context place dim coordinate
     ++ array_index_points (image_fault statement) context place arrayed array_index
 
 -- the value of an ImageStore
-abbrev pub texel_value_points : Context → Place → StorageFormat → ℕ → Points
+abbrev pub texel_value_points : Context → VisitPlace → StorageFormat → ℕ → Points
 texel_value_points context place format value =
     use_point place value
     ∷ (
@@ -49,26 +49,26 @@ texel_value_points context place format value =
     ∷ []
 
 -- the value of an ImageAtomic
-abbrev pub changed_value_points : Context → Place → StorageFormat → ℕ → Points
+abbrev pub changed_value_points : Context → VisitPlace → StorageFormat → ℕ → Points
 changed_value_points context place format value =
     use_point place value
     ∷ (is_scalar (format_scalar format) (type_at context value), InvalidImageAtomicValue value)
     ∷ []
 
 -- the format and the value of an ImageAtomic
-abbrev pub changed_format_points : Context → Place → StorageFormat → AtomicFunction → ℕ → Points
+abbrev pub changed_format_points : Context → VisitPlace → StorageFormat → AtomicFunction → ℕ → Points
 changed_format_points context place format fun value =
     format_points context.settings.capabilities format fun ++ changed_value_points context place format value
 
 -- the class of an ImageAtomic's image, the operation, and the value
-abbrev pub changed_class_points : Context → Place → ImageClass → AtomicFunction → ℕ → Points
+abbrev pub changed_class_points : Context → VisitPlace → ImageClass → AtomicFunction → ℕ → Points
 changed_class_points context place class fun value =
     change_point (is_storage_class class) (wrong.InvalidImageClass class)
     ∷ change_point (takes_atomics (stored_access class)) (wrong.InvalidImageStorageAccess (stored_access class))
     ∷ changed_format_points context place (stored_format class) fun value
 
 -- the image and the texel of an ImageStore
-abbrev pub stored_texel_points : Context → Place → ℕ → ℕ → Option ℕ → Points
+abbrev pub stored_texel_points : Context → VisitPlace → ℕ → ℕ → Option ℕ → Points
 stored_texel_points context place image coordinate array_index =
     let global = image_global context image in
     let shape = stored_shape context image in
@@ -80,7 +80,7 @@ stored_texel_points context place image coordinate array_index =
 
 -- the texel of an ImageAtomic, and what is asked behind it
 abbrev pub changed_points : Context →
-    Place → ImageDimension → Bool → ℕ → Option ℕ → ImageClass → AtomicFunction → ℕ → Points
+    VisitPlace → ImageDimension → Bool → ℕ → Option ℕ → ImageClass → AtomicFunction → ℕ → Points
 changed_points context place dim arrayed coordinate array_index class fun value =
     texel_points by.Atomic context place dim arrayed coordinate array_index
     ++ changed_class_points context place class fun value

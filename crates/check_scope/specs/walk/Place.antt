@@ -1,7 +1,7 @@
 -- The place where the code's checks are made: work of lemmas, cited by functions that the validator alone calls.
 use Rattle.std.specs.Prelude.{false}
 use Rattle.naga_runs.specs.Handles.{Handles, no_handles}
-use Rattle.naga_runs.specs.Visits.{Place}
+use Rattle.naga_runs.specs.Visits.{VisitPlace}
 use Rattle.naga_runs.specs.declared.Abilities.{Abilities}
 
 abbrev pub no_abilities : Abilities
@@ -16,5 +16,5 @@ abbrev pub no_sets : Sets
 no_sets = record { scope = no_handles; must = no_handles }
 
 -- the place where these are. Only the lists of jumps ask for the abilities
-abbrev pub place_at : Sets → Place
+abbrev pub place_at : Sets → VisitPlace
 place_at sets = record { abilities = no_abilities; scope = sets.scope; must = sets.must }

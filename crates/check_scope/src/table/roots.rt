@@ -7,7 +7,7 @@ ghost use Rattle.check_scope.specs.walk.SeenContext.{context_of};
 ghost use Rattle.check_scope.specs.walk.Table.{KnowsRoots};
 
 use crate::context::BlockContext;
-use crate::roots::{access_base, root_of};
+use crate::roots::{access_base_in, root_of};
 use crate::table::RootColumn;
 use ir_arena::handle::Handle;
 use ir_arena::tag;
@@ -45,7 +45,7 @@ impl RootColumn {
     {
         let mut handle = expression;
         for _step in 0..SHORT_WALK {
-            match access_base(context.expression(handle)) {
+            match access_base_in(context.expression(handle)) {
                 Some(base) => handle = base,
                 None => return handle,
             }
@@ -102,7 +102,7 @@ impl RootColumn {
         requires roots { KnowsRoots (context_of context.now) self.now }
         ensures { result ≡ root_at (context_of context.now) handle }
     {
-        match access_base(context.expression(handle)) {
+        match access_base_in(context.expression(handle)) {
             Some(base) => {
                 let place = base.index();
                 self.roots[place]

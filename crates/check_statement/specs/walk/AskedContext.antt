@@ -13,7 +13,7 @@ use Rattle.ir_facts.specs.Meaning.{Meaning}
 use Rattle.ir_errors.specs.declared.function.FunctionError.{FunctionError}
 use Rattle.check_scope.specs.Context.{Context}
 use Rattle.check_statement.specs.FunctionJudgement.{FunctionOutcome, declarations_step, expressions_known, function_judgement}
-use Rattle.check_statement.specs.ValidatorParts.{Parts}
+use Rattle.check_statement.specs.ValidatorParts.{ValidatorParts}
 use Rattle.check_scope.specs.declared.trace.TraceState.{TraceState}
 
 -- the context that a validator with these settings and this trace state judges a function in
@@ -35,7 +35,7 @@ known_behind below infos entry_point context =
     and_then (declarations_step infos entry_point context) (λ info. expressions_known below (record context { info = info }))
 
 -- of a validator of these parts, over a lower layer that means this
-module _ {B : Type 0} (parts : Parts B) where
+module _ {B : Type 0} (parts : ValidatorParts B) where
   -- the context that it judges a function in
   abbrev pub asked_by : Module → ModuleInfo → Function → List ExpressionKind → FunctionInfo → Context
   asked_by program earlier fun kinds info = asked_context parts.settings parts.trace program earlier fun kinds info

@@ -7,7 +7,7 @@ use Rattle.ir_errors.specs.declared.function.FunctionError.{FunctionError}
 use Rattle.ir_flags.specs.declared.valid.ShaderStages.{ShaderStages}
 use Rattle.naga_runs.specs.Handles.{Handles, no_handles, with_handle}
 use Rattle.naga_runs.specs.Judgement.{Rules}
-use Rattle.naga_runs.specs.Positions.{Node, StatementNode}
+use Rattle.naga_runs.specs.Positions.{BodyNode, StatementNode}
 use Rattle.naga_runs.specs.Visits.{Visit}
 use Rattle.check_statement.specs.Past.{Past}
 use Rattle.check_scope.specs.Context.{Context}
@@ -47,7 +47,7 @@ with_statement context state x =
     }
 
 -- a break condition is no statement
-abbrev pub state_behind : Context → State → Node → State
+abbrev pub state_behind : Context → State → BodyNode → State
 state_behind context state (StatementNode x) = with_statement context state x
 state_behind context state _ = state
 

@@ -16,7 +16,7 @@ is_begun [] = false
 is_begun (b ∷ bs) = true
 
 -- The replies to the lines that have ended were written, and what follows them is the line that is being read.
-pub record Follows (s : Stream) (input : List ℕ) (old new : Option (List ℕ)) : Type 0 where
+pub record HasTaken (s : Stream) (input : List ℕ) (old new : Option (List ℕ)) : Type 0 where
   pub done : List (List ℕ)
   pub line : List ℕ
   pub out : List ℕ

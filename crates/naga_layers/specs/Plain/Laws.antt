@@ -96,7 +96,8 @@ types_from-lawful m f earlier (x ∷ rest) types all h =
 
 -- an info is of types that were found
 by_types : (f : Function) (m : Module) (info : FunctionInfo) (P : FunctionInfo → Type 0)
-    → ((types : List TypeResolution) → All (IsLawful m.types) types → length types ≡ length f.expressions → P (info_of_types m f types))
+    → ((types : List TypeResolution) → All (IsLawful m.types) types → length types ≡ length f.expressions
+    → P (info_of_types m f types))
     → (found : Result (List TypeResolution) FunctionError) → types_from m f [] f.expressions ≡ found
     → with_types m f found ≡ Ok info → P info
 by_types f m info P p (Err fault) e h = absurd cc

@@ -20,7 +20,7 @@ use Rattle.ir_facts.specs.declared.proc.mesh.MeshAnalysis.{MeshAnalysis}
 use Rattle.ir_errors.specs.declared.mesh.MeshFault.{MeshFault}
 use Rattle.ir_errors.specs.declared.mesh.MeshFault.TheVariants.{OutputType, OutputField}
 use Rattle.layer_shapes.specs.Shapes.{four_bytes, is_same_scalar}
-use Rattle.naga_layers.specs.declared.typed.mesh.Items.{Items}
+use Rattle.naga_layers.specs.declared.typed.mesh.MeshItems.{MeshItems}
 use Rattle.naga_layers.specs.declared.typed.mesh.Outputs.{Outputs}
 use Rattle.naga_layers.specs.declared.typed.mesh.Role.{Role}
 use Rattle.naga_layers.specs.declared.typed.mesh.Role.TheVariants as role
@@ -34,12 +34,12 @@ is_u32 (Some (inner.Scalar s)) = is_same_scalar s (four_bytes Uint)
 is_u32 _ = false
 
 -- the arrays have a constant size, or one that an override gives: then the number is 0
-abbrev pub items_by : ℕ → ArraySize → Option Items
+abbrev pub items_by : ℕ → ArraySize → Option MeshItems
 items_by base (size.Constant n) = Some (record { base = base; max = n.value; max_override = None })
 items_by base (size.Pending o) = Some (record { base = base; max = 0; max_override = Some o })
 items_by base size.Dynamic = None
 
-abbrev pub items_of : TypeInner → Option Items
+abbrev pub items_of : TypeInner → Option MeshItems
 items_of (inner.Array base n stride) = items_by base n
 items_of _ = None
 
@@ -64,11 +64,11 @@ abbrev pub with_primitive_count : Outputs → Bool → Option Outputs
 with_primitive_count outputs fits =
     if fits && not outputs.has_primitive_count then Some (record outputs { has_primitive_count = true }) else None
 
-abbrev pub with_vertices : Outputs → Option Items → Option Outputs
+abbrev pub with_vertices : Outputs → Option MeshItems → Option Outputs
 with_vertices outputs items =
     if is_some items && is_none outputs.vertices then Some (record outputs { vertices = items }) else None
 
-abbrev pub with_primitives : Outputs → Option Items → Option Outputs
+abbrev pub with_primitives : Outputs → Option MeshItems → Option Outputs
 with_primitives outputs items =
     if is_some items && is_none outputs.primitives then Some (record outputs { primitives = items }) else None
 
@@ -111,7 +111,7 @@ topology_in (Some (inner.Struct members span)) = topology_among members
 topology_in _ = None
 
 -- what is implied by vertices, primitives and their topology; overrides of their numbers stand beside it
-abbrev pub implied_of : ℕ → MeshOutputTopology → Items → Items → MeshStageInfo
+abbrev pub implied_of : ℕ → MeshOutputTopology → MeshItems → MeshItems → MeshStageInfo
 implied_of output topology vertices primitives =
     record {
       topology = topology;
@@ -124,7 +124,7 @@ implied_of output topology vertices primitives =
       output_variable = output;
     }
 
-abbrev pub right : ℕ → MeshOutputTopology → Items → Items → MeshAnalysis
+abbrev pub right : ℕ → MeshOutputTopology → MeshItems → MeshItems → MeshAnalysis
 right output topology vertices primitives =
     record {
       implied = implied_of output topology vertices primitives;
@@ -132,7 +132,7 @@ right output topology vertices primitives =
       fault = None;
     }
 
-abbrev pub nothing : Items
+abbrev pub nothing : MeshItems
 nothing = record { base = 0; max = 0; max_override = None }
 
 -- where something is wrong nothing is implied
@@ -140,11 +140,11 @@ abbrev pub wrong : ℕ → MeshFault → MeshAnalysis
 wrong output fault =
     record { implied = implied_of output Points nothing nothing; overrides = None ∷ None ∷ []; fault = Some fault }
 
-abbrev pub analysis_by : ℕ → Items → Items → Option MeshOutputTopology → MeshAnalysis
+abbrev pub analysis_by : ℕ → MeshItems → MeshItems → Option MeshOutputTopology → MeshAnalysis
 analysis_by output vertices primitives None = wrong output OutputType
 analysis_by output vertices primitives (Some topology) = right output topology vertices primitives
 
-abbrev pub analysis_with : List IrType → ℕ → Option Items → Option Items → MeshAnalysis
+abbrev pub analysis_with : List IrType → ℕ → Option MeshItems → Option MeshItems → MeshAnalysis
 analysis_with types output (Some vertices) (Some primitives) =
     analysis_by output vertices primitives (topology_in (inner_at types primitives.base))
 analysis_with types output _ _ = wrong output OutputType

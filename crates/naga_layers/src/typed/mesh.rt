@@ -14,9 +14,9 @@ use ir_leaves::bindings::Binding;
 use ir_leaves::built_in::BuiltIn;
 use ir_leaves::scalars::Scalar;
 use ir_module::module::{MeshOutputTopology, MeshStageInfo, Module};
+use ir_types::type_methods::inner_at;
 use ir_types::types::{ArraySize, StructMember, Type, TypeInner};
 use layer_shapes::shapes::is_same_scalar;
-use layer_types::sizes::inner_at;
 use std::alloc::Global;
 
 /// What a member of the output variable's struct is.
@@ -30,7 +30,7 @@ pub(crate) enum Role {
 
 /// An array of vertices or of primitives: of this type, and at most so many; an override stands in for the number.
 #[derive(Clone, Copy)]
-pub(crate) struct Items {
+pub(crate) struct MeshItems {
     pub base: Handle<tag::Type>,
     pub max: u32,
     pub max_override: Option<Handle<tag::Override>>,
@@ -41,8 +41,8 @@ pub(crate) struct Items {
 pub(crate) struct Outputs {
     pub has_vertex_count: bool,
     pub has_primitive_count: bool,
-    pub vertices: Option<Items>,
-    pub primitives: Option<Items>,
+    pub vertices: Option<MeshItems>,
+    pub primitives: Option<MeshItems>,
 }
 
 /// Before the first member.
@@ -68,17 +68,17 @@ fn is_u32(inner: Option<&TypeInner>) -> bool
 }
 
 /// The items of an array of a size that is known when the pipeline is made.
-fn items_of(inner: &TypeInner) -> Option<Items>
+fn items_of(inner: &TypeInner) -> Option<MeshItems>
     ensures { result ≡ items_of inner.now }
 {
     match inner {
         TypeInner::Array { base, size, .. } => match size {
-            ArraySize::Constant(count) => Some(Items {
+            ArraySize::Constant(count) => Some(MeshItems {
                 base: *base,
                 max: count.get(),
                 max_override: None,
             }),
-            ArraySize::Pending(handle) => Some(Items {
+            ArraySize::Pending(handle) => Some(MeshItems {
                 base: *base,
                 max: 0,
                 max_override: Some(*handle),
@@ -113,7 +113,7 @@ fn role_of_binding(binding: Option<Binding>) -> Option<Role>
 }
 
 /// The items of the type that a member has.
-fn items_at(types: &[Type], ty: Handle<tag::Type>) -> Option<Items>
+fn items_at(types: &[Type], ty: Handle<tag::Type>) -> Option<MeshItems>
     ensures { result ≡ option_and_then items_of (inner_at types.now ty) }
 {
     match inner_at(types, ty) {
@@ -151,7 +151,7 @@ fn with_primitive_count(outputs: Outputs, fits: bool) -> Option<Outputs>
 }
 
 /// With vertices.
-fn with_vertices(outputs: Outputs, items: Option<Items>) -> Option<Outputs>
+fn with_vertices(outputs: Outputs, items: Option<MeshItems>) -> Option<Outputs>
     ensures { result ≡ with_vertices outputs items }
 {
     if items.is_some() && outputs.vertices.is_none() {
@@ -165,7 +165,7 @@ fn with_vertices(outputs: Outputs, items: Option<Items>) -> Option<Outputs>
 }
 
 /// With primitives.
-fn with_primitives(outputs: Outputs, items: Option<Items>) -> Option<Outputs>
+fn with_primitives(outputs: Outputs, items: Option<MeshItems>) -> Option<Outputs>
     ensures { result ≡ with_primitives outputs items }
 {
     if items.is_some() && outputs.primitives.is_none() {
@@ -255,8 +255,8 @@ fn topology_of(types: &[Type], ty: Handle<tag::Type>) -> Option<MeshOutputTopolo
 fn implied_of(
     output: Handle<tag::GlobalVariable>,
     topology: MeshOutputTopology,
-    vertices: &Items,
-    primitives: &Items,
+    vertices: &MeshItems,
+    primitives: &MeshItems,
 ) -> MeshStageInfo
     ensures { result ≡ implied_of output topology vertices.now primitives.now }
 {
@@ -276,7 +276,7 @@ fn implied_of(
 fn wrong(alloc: Global, output: Handle<tag::GlobalVariable>, fault: MeshFault) -> MeshAnalysis
     ensures { result ≡ wrong output fault }
 {
-    let nothing = Items {
+    let nothing = MeshItems {
         base: Handle::new(0),
         max: 0,
         max_override: None,
@@ -292,8 +292,8 @@ fn wrong(alloc: Global, output: Handle<tag::GlobalVariable>, fault: MeshFault) -
 fn right(
     output: Handle<tag::GlobalVariable>,
     topology: MeshOutputTopology,
-    vertices: &Items,
-    primitives: &Items,
+    vertices: &MeshItems,
+    primitives: &MeshItems,
 ) -> MeshAnalysis
     ensures { result ≡ right output topology vertices.now primitives.now }
 {

@@ -4,6 +4,7 @@ ghost use Rattle.std.specs.Prelude.{◌≡◌, [], OnOk, IfErr};
 ghost use Rattle.ir_facts.specs.Fits.{FitsTypes};
 ghost use Rattle.naga_module.specs.CodeModule.{Leads, Stops};
 ghost use Rattle.check_entry.specs.GivenInfos.{AreInfosOf};
+ghost use Rattle.ir_misfits.specs.FittingSignatures.{MarkFitting};
 
 use check_faults::module::ModuleFault;
 use ir_arena::handle::Handle;
@@ -11,21 +12,23 @@ use ir_arena::span::Refusal;
 use ir_arena::tag;
 use ir_facts::below::Below;
 use ir_facts::valid::info::ModuleInfo;
-use ir_fits::fits_function;
+use ir_fits::fits_function_with;
 use ir_module::module::Module;
 use naga_valid::Validator;
 use std::alloc::Global;
 
 /// Validates the functions of a module in order, each with the infos of those before it, and adds the info of each at
-/// the end.
+/// the end. A true mark of `fitting`, indexed by handles of functions, says that the signature is known to fit.
 pub(crate) fn validate_functions<B: Below>(
     alloc: Global,
     validator: &mut Validator<B>,
     module: &Module,
+    fitting: &[bool],
     infos: &mut ModuleInfo,
 ) -> Result<(), ModuleFault>
     requires infos { AreInfosOf «module».now validator.old.types }
     requires types { FitsTypes «module».now }
+    requires fitting { MarkFitting «module».now fitting.now }
     requires first { infos.old.functions ≡ [] }
     ensures judged { OnOk result (Leads (B.meaning validator.old.below) validator.old.settings validator.old.types «module».now
         validator.old.trace infos.old «module».now.functions
@@ -40,7 +43,7 @@ pub(crate) fn validate_functions<B: Below>(
     for index in 0..count {
         let handle = Handle::new(index);
         let fun = &module.functions[handle];
-        if !fits_function(fun, module, infos.functions.len()) {
+        if !fits_function_with(fun, module, fitting, infos.functions.len()) {
             return Err(ModuleFault::NotFit);
         }
         let answer = validator.validate_function(alloc, fun, module, infos, false);

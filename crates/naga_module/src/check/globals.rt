@@ -1,9 +1,9 @@
 //! The global variables of a module, in order.
 
-ghost use Rattle.std.specs.Prelude.{◌≡◌, ◌⊎◌, Ok, Err, OnOk, IfErr};
+ghost use Rattle.std.specs.Prelude.{◌≡◌, Ok, OnOk, IfErr};
 ghost use Rattle.ir_facts.specs.Fits.{FitsTypes, FitsGlobals};
+ghost use Rattle.naga_module.specs.CodeModule.{IsRightFault};
 ghost use Rattle.naga_module.specs.ModuleJudgement.{globals_step};
-ghost use Rattle.check_faults.specs.declared.module.ModuleFault.TheVariants as fault;
 ghost use Rattle.check_entry.specs.GivenInfos.{AreInfosOf};
 
 use check_faults::module::ModuleFault;
@@ -26,8 +26,8 @@ pub(crate) fn validate_globals<B: Below>(
     requires globals { FitsGlobals «module».now infos.now }
     ensures judged { OnOk result (globals_step (B.meaning validator.now.below)
         validator.now.settings validator.now.types «module».now infos.now ≡ Ok tt) }
-    ensures refused { IfErr result (λ told. (told ≡ fault.Memory) ⊎ (globals_step (B.meaning validator.now.below)
-        validator.now.settings validator.now.types «module».now infos.now ≡ Err told)) }
+    ensures refused { IfErr result (IsRightFault (λ answer. globals_step (B.meaning validator.now.below)
+        validator.now.settings validator.now.types «module».now infos.now ≡ answer)) }
 {
     let kinds = validator.below().kinds(alloc, &module.global_expressions)?;
     let count = module.global_variables.len() as u32;

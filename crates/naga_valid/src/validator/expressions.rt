@@ -43,7 +43,7 @@ fn refused_expression(
 impl<B: Below> Validator<B> {
     /// Asks for each expression, where expressions are checked, with the info whose stages have the masks of those before it
     /// met in, and leaves the stages of all of them in it.
-    pub(crate) fn meet_expressions(
+    pub(crate) fn check_expressions(
         &self,
         alloc: Global,
         function: &FunctionContext,

@@ -45,7 +45,8 @@ impl<B: Below> Validator<B> {
     ) -> Result<(), Refusal<FunctionError>>
         requires infos { AreInfosOf function.now.program.now self.old.types }
         requires types { FitsTypes function.now.program.now }
-        requires function { FitsFunction function.now.fun.now function.now.program.now (length function.now.earlier.now.functions) }
+        requires function { FitsFunction function.now.fun.now function.now.program.now
+            (length function.now.earlier.now.functions) }
         requires known { lower_step (B.meaning self.old.below) self.old.settings self.old.types self.old.trace
             function.now.program.now function.now.earlier.now function.now.fun.now function.now.entry_point ≡ Ok info.old }
         requires kinds { kinds.now ≡ (B.meaning self.old.below).kinds_of function.now.fun.now.expressions }
@@ -58,7 +59,7 @@ impl<B: Below> Validator<B> {
     {
         let context = self.block_context(*function, kinds, &*info);
         check_declarations(alloc, &context, self.infos(), function.entry_point)?;
-        self.meet_expressions(alloc, function, kinds, info)?;
+        self.check_expressions(alloc, function, kinds, info)?;
         if self.settings.flags.contains(ValidationFlags::BLOCKS) {
             let context = self.block_context(*function, kinds, &*info);
             let mut table = Table::take_or_new(alloc, &mut self.table)?;

@@ -1,5 +1,5 @@
-//! What the errors of entry points print: their names, which a clause has, but for one that has a text of its own. Their sentences
-//! are in verdicts for people, which tools/listings compares; but for that of the one that is never made.
+//! What the errors of entry points print: their names, which a clause has, but for one that has a text of its own. Their
+//! sentences are in verdicts for people, which tools/listings compares; but for that of the one that is never made.
 
 use crate::tests::parts::{expect_text, made};
 use naga_below::ShaderStage;

@@ -91,7 +91,7 @@ fn expect_misfit(rt: &(impl Abort + AllocGlobal), module: &Module, misfit: Optio
         types: infos_of_types(rt, known()),
         global_types: Vec::new(rt.alloc()),
     };
-    let found = find_misfit(&layer(), &given, module);
+    let found = find_misfit(rt.alloc(), &layer(), &given, module);
     drop(given);
     holds!(rt; found == misfit);
 }

@@ -7,7 +7,7 @@ use crate::tests::rows::{MISLED, function};
 use naga_below::{
     Function, FunctionInfo, Handle, Refusal, Span, WithSpan, fits_function, fits_types,
 };
-use naga_module::{ModuleFault, Subject, write_fault, write_module_fault, write_refusal};
+use naga_module::{ModuleFault, Subject, write_fault, write_module_fault};
 use naga_rules::{Explain, FunctionError, GlobalVariableError};
 use naga_valid::EntryPointError;
 use std::process::Abort;

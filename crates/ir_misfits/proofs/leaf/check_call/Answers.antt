@@ -12,22 +12,22 @@ use Rattle.ir_misfits.proofs.leaf.check_call.Goals as goal
 
 pub returns-in_err-check_callee : goal.returns-in_err-check_callee
 returns-in_err-check_callee c =
-    let asked = c.args.asked.now in
+    let ranges = c.args.ranges.now in
     let at = InStatement c.args.owner c.args.number field.Function in
-    let first = named at Functions asked.earlier c.args.function in
-    let rest = points_of_each (call_argument_points asked.expressions c.args.owner c.args.number) c.args.arguments.now ++ names_if asked.expressions c.args.owner c.args.number field.Result c.args.answer in
+    let first = named at Functions ranges.earlier c.args.function in
+    let rest = points_of_each (call_argument_points ranges.expressions c.args.owner c.args.number) c.args.arguments.now ++ names_if ranges.expressions c.args.owner c.args.number field.Result c.args.answer in
     let holds = rw c.index.ensures.value at c.in_ok-names.ensures in
-    let told = stops_in first.0 first.1 (callee_points asked.module.now at c.args.function) rest c.in_err-check_callee.field-0.0 holds c.in_err-check_callee.ensures in
+    let told = stops_in first.0 first.1 (callee_points ranges.module.now at c.args.function) rest c.in_err-check_callee.field-0.0 holds c.in_err-check_callee.ensures in
     search (rules, told)
 
 pub returns : goal.returns
 returns c =
-    let asked = c.args.asked.now in
+    let ranges = c.args.ranges.now in
     let at = InStatement c.args.owner c.args.number field.Function in
-    let first = named at Functions asked.earlier c.args.function in
-    let callee = callee_points asked.module.now at c.args.function in
-    let given = points_of_each (call_argument_points asked.expressions c.args.owner c.args.number) c.args.arguments.now in
-    let last = names_if asked.expressions c.args.owner c.args.number field.Result c.args.answer in
+    let first = named at Functions ranges.earlier c.args.function in
+    let callee = callee_points ranges.module.now at c.args.function in
+    let given = points_of_each (call_argument_points ranges.expressions c.args.owner c.args.number) c.args.arguments.now in
+    let last = names_if ranges.expressions c.args.owner c.args.number field.Result c.args.answer in
     let answered = result_err c.names_if_any.result in
     let holds = rw c.index.ensures.value at c.in_ok-names.ensures in
     let behind = passes_in given last answered c.in_ok-check_call_arguments.ensures c.names_if_any.ensures in

@@ -5,5 +5,5 @@ use Rattle.ir_misfits.proofs.leaf.leaf_fits.Goals as goal
 
 pub returns : goal.returns
 returns c =
-    let asked = c.args.asked.now in
-    decides c.check_leaf.result c.is_ok.result c.check_leaf.ensures c.is_ok.ensures.value (leaf_exact asked.module.now asked.expressions asked.earlier Module 0 c.args.statement.now)
+    let ranges = c.args.ranges.now in
+    decides c.check_leaf.result c.is_ok.result c.check_leaf.ensures c.is_ok.ensures.value (leaf_exact ranges.module.now ranges.expressions ranges.earlier Module 0 c.args.statement.now)

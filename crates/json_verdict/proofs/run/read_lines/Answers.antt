@@ -1,6 +1,6 @@
 use Rattle.std.proofs.Common.{rules}
 use Rattle.std.proofs.KnownBytes.{Consumes-trans}
-use Rattle.json_verdict.proofs.Ended.{follows_kept}
+use Rattle.json_verdict.proofs.Ended.{taken_kept}
 use Rattle.json_verdict.proofs.run.read_lines.Goals as goal
 
 pub reads-preserved : goal.reads-preserved
@@ -9,5 +9,5 @@ reads-preserved g c =
       search rules,
       _,
       Consumes-trans _ _ _ _ _ consumed c.in_ok-count.ensures.bytes.0,
-      follows_kept _ _ _ _ _ (c.in_ok-take_all.ensures input _ f) c.flush.ensures.bytes,
+      taken_kept _ _ _ _ _ (c.in_ok-take_all.ensures input _ f) c.flush.ensures.bytes,
     )

@@ -7,7 +7,7 @@ use Rattle.leafnurd.proofs.reply.judge_into.Goals as goal
 pub returns : goal.returns
 returns c =
     let found = c.examine-examined.result in
-    elim c.tell-answer.ensures [
+    elim c.report-answer.ensures [
       | inl told ↦ (
         found.id,
         found.verdict,

@@ -1,7 +1,7 @@
 use Rattle.naga_module.proofs.ModuleInfos.{module_is_judged}
 use Rattle.naga_module.proofs.ModuleLaw.{module_holds, module_fills_once, module_binds_apart}
 use Rattle.naga_module.proofs.OneJudgement.{one_judgement}
-use Rattle.naga_module.proofs.OnlyFunctions.{functions_alone_are_told}
+use Rattle.naga_module.proofs.OnlyFunctions.{functions_alone_are_reported}
 use Rattle.naga_module.proofs.laws.module_law.Goals as goal
 
 pub returns-clause-infos : goal.returns-clause-infos
@@ -19,5 +19,5 @@ returns-clause-bindings c = module_binds_apart
 pub returns-clause-one : goal.returns-clause-one
 returns-clause-one c = one_judgement
 
-pub returns-clause-told : goal.returns-clause-told
-returns-clause-told c = functions_alone_are_told
+pub returns-clause-reported : goal.returns-clause-reported
+returns-clause-reported c = functions_alone_are_reported

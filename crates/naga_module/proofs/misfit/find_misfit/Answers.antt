@@ -18,8 +18,8 @@ returns-clause-exact g c =
     let told = c.err.ensures.value ∙ c.check_all_fit.ensures ∙ one ∙ other in
     none_exactly c.err.result points fits told (module_exact below types m global_types)
 
-pub returns-clause-told : goal.returns-clause-told
-returns-clause-told g c = λ settings judged.
+pub returns-clause-reported : goal.returns-clause-reported
+returns-clause-reported g c = λ settings judged.
     let below = g.B.Below.meaning c.args.below.now in
     let m = c.args.module.now in
     let types = c.args.given.now.types.items in

@@ -3,7 +3,7 @@ use Rattle.ir_arena.specs.Points.{within}
 use Rattle.check_entry.specs.EntryFaults.{fault_of}
 use Rattle.check_entry.specs.Mesh.{variable_points, said_points, mesh_points}
 use Rattle.check_entry.specs.EntryVaryings.{outputs_points}
-use Rattle.check_entry.proofs.EntrySteps.{judges_first, judges_second}
+use Rattle.ir_facts.proofs.Refusals.{refuses_first, refuses_second, stays_refused}
 use Rattle.check_entry.proofs.interface.InterfaceContext.check_mesh.Goals as goal
 use Rattle.ir_facts.specs.Answers.{Answers, FirstOf, read_by}
 
@@ -20,7 +20,7 @@ returns-in_err-answer g c =
     let second = within fault_of (said_points settings.capabilities program (below.mesh_analysis program mesh.output_variable) mesh) in
     let third = outputs_points settings program.types infos ep mesh.vertex_output_type mesh.primitive_output_type in
     let here : Answers (FirstOf (within fault_of first)) (read_by fault_of r) = search (rules, c.answer.ensures.judges first c.check_variable.ensures) in
-    subst (λ m. Answers (FirstOf (mesh_points below settings infos program ep m)) (read_by fault_of r)) (sym c.in-Some.is) (judges_first r (within fault_of first) (second ++ third) (search rules) here)
+    subst (λ m. Answers (FirstOf (mesh_points below settings infos program ep m)) (read_by fault_of r)) (sym c.in-Some.is) (refuses_first (read_by fault_of r) (within fault_of first) (second ++ third) (stays_refused fault_of r (search rules)) here)
 
 pub returns-in_err-check_said : goal.returns-in_err-check_said
 returns-in_err-check_said g c =
@@ -36,7 +36,7 @@ returns-in_err-check_said g c =
     let third = outputs_points settings program.types infos ep mesh.vertex_output_type mesh.primitive_output_type in
     let none = c.in_ok-answer.ensures.judges first c.check_variable.ensures in
     let here : Answers (FirstOf (within fault_of second)) (read_by fault_of r) = search (rules, c.check_said.ensures) in
-    subst (λ m. Answers (FirstOf (mesh_points below settings infos program ep m)) (read_by fault_of r)) (sym c.in-Some.is) (judges_second r (within fault_of first) (within fault_of second ++ third) none (judges_first r (within fault_of second) third (search rules) here))
+    subst (λ m. Answers (FirstOf (mesh_points below settings infos program ep m)) (read_by fault_of r)) (sym c.in-Some.is) (refuses_second (read_by fault_of r) (within fault_of first) (within fault_of second ++ third) none (refuses_first (read_by fault_of r) (within fault_of second) third (stays_refused fault_of r (search rules)) here))
 
 pub returns : goal.returns
 returns g c =
@@ -52,4 +52,4 @@ returns g c =
     let third = outputs_points settings program.types infos ep mesh.vertex_output_type mesh.primitive_output_type in
     let none = c.in_ok-answer.ensures.judges first c.check_variable.ensures in
     let none_said = c.in_ok-check_said.ensures in
-    subst (λ m. Answers (FirstOf (mesh_points below settings infos program ep m)) (read_by fault_of r)) (sym c.in-Some.is) (judges_second r (within fault_of first) (within fault_of second ++ third) none (judges_second r (within fault_of second) third none_said c.check_outputs.ensures))
+    subst (λ m. Answers (FirstOf (mesh_points below settings infos program ep m)) (read_by fault_of r)) (sym c.in-Some.is) (refuses_second (read_by fault_of r) (within fault_of first) (within fault_of second ++ third) none (refuses_second (read_by fault_of r) (within fault_of second) third none_said c.check_outputs.ensures))

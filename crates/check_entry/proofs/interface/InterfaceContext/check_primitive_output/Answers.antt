@@ -1,13 +1,14 @@
 use Rattle.std.proofs.Common.{rules, ◌≡◌, ◌∷◌, ◌++◌, true, false, None, [], sym, ◌∙◌, subst}
 use Rattle.ir_arena.specs.Points.{first_fault, within}
-use Rattle.ir_types.specs.TypeTests.{it_is}
+use Rattle.ir_types.specs.TypeTests.{is_struct, it_is}
 use Rattle.ir_types.specs.Types.{inner_at}
 use Rattle.check_varyings.specs.Varyings.{parts_of, placed_parts, points_from, seen_in}
 use Rattle.check_varyings.specs.declared.varying.MeshOutputType.TheVariants.{VertexOutput, PrimitiveOutput}
 use Rattle.check_entry.specs.EntryFaults.{OfResult, Other, fault_of}
-use Rattle.check_entry.specs.EntryVaryings.{has_one_of_indices, is_struct, output_item, output_points, place_of}
+use Rattle.check_entry.specs.EntryVaryings.{has_one_of_indices, output_item, output_points, place_of}
 use Rattle.check_faults.specs.declared.entry.EntryPointError.TheVariants as fault
-use Rattle.check_entry.proofs.EntrySteps.{judges_first, refuses_as}
+use Rattle.check_entry.proofs.EntrySteps.{refuses_as}
+use Rattle.ir_facts.proofs.Refusals.{refuses_first, stays_refused}
 use Rattle.check_entry.proofs.Groups.{indices_by_position, last_fails, last_holds, output_by_position}
 use Rattle.check_entry.proofs.interface.InterfaceContext.check_primitive_output.Goals as goal
 use Rattle.ir_facts.specs.Answers.{Answers, FirstOf, read_by}
@@ -24,7 +25,7 @@ returns-in_err-check_output g c =
     let out = output_points settings types infos ep PrimitiveOutput earlier ty in
     let by = output_by_position types infos settings ep PrimitiveOutput earlier (seen_in c.args.state.now) ty c.requires.seen in
     let asked : Answers (FirstOf ((it_is is_struct (inner_at types ty), Other fault.InvalidMeshOutputType) ∷ within OfResult (points_from (place_of settings ep true PrimitiveOutput) types infos (seen_in c.args.state.now) ty None))) (read_by fault_of r) = search (rules, c.check_output.ensures.fault) in
-    judges_first r out ((has_one_of_indices (parts_of types infos ty None), Other fault.InvalidMeshPrimitiveOutputType) ∷ []) (search rules) (subst (λ points. Answers (FirstOf points) (read_by fault_of r)) by asked)
+    refuses_first (read_by fault_of r) out ((has_one_of_indices (parts_of types infos ty None), Other fault.InvalidMeshPrimitiveOutputType) ∷ []) (stays_refused fault_of r (search rules)) (subst (λ points. Answers (FirstOf points) (read_by fault_of r)) by asked)
 
 pub returns-then-not-has_one_of_indices : goal.returns-then-not-has_one_of_indices
 returns-then-not-has_one_of_indices g c =

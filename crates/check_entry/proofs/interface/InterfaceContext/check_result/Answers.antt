@@ -3,7 +3,7 @@ use Rattle.ir_arena.specs.Points.{within}
 use Rattle.ir_leaves.specs.declared.built_in.BuiltIn.TheVariants.{Position}
 use Rattle.check_entry.specs.EntryFaults.{fault_of}
 use Rattle.check_entry.specs.EntryVaryings.{declared_points, has_built_in, result_parts, returned_points}
-use Rattle.check_entry.proofs.EntrySteps.{judges_first, judges_second}
+use Rattle.ir_facts.proofs.Refusals.{refuses_first, refuses_second, stays_refused}
 use Rattle.check_entry.proofs.interface.InterfaceContext.check_result.Goals as goal
 use Rattle.ir_facts.specs.Answers.{Answers, FirstOf, read_by}
 
@@ -17,7 +17,7 @@ returns-in_err-check_declared g c =
     let position = has_built_in (Position false) (result_parts types infos ep.function.result) in
     let second = within fault_of (returned_points types ep.stage position ep.function.result) in
     let here : Answers (FirstOf first) (read_by fault_of r) = search (rules, c.check_declared.ensures.fault) in
-    judges_first r first second (search rules) here
+    refuses_first (read_by fault_of r) first second (stays_refused fault_of r (search rules)) here
 
 pub returns : goal.returns
 returns g c =
@@ -30,4 +30,4 @@ returns g c =
     let points = returned_points types ep.stage position ep.function.result in
     let same = c.has_built_in-position.ensures ∙ c.in_ok-check_declared.ensures.seen in
     let found = subst (λ (b : Bool). Answers (FirstOf (within fault_of (returned_points types ep.stage b ep.function.result))) (read_by fault_of r)) same c.check_returned.ensures in
-    judges_second r first (within fault_of points) c.in_ok-check_declared.ensures.fault found
+    refuses_second (read_by fault_of r) first (within fault_of points) c.in_ok-check_declared.ensures.fault found

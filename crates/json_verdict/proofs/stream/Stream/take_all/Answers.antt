@@ -1,5 +1,5 @@
 use Rattle.std.proofs.Common.{◌++◌, ◌∷◌, [], ap, ◌∙◌, subst}
-use Rattle.json_verdict.specs.walk.Lines.{Follows}
+use Rattle.json_verdict.specs.walk.Lines.{HasTaken}
 use Rattle.json_verdict.proofs.Ended.{line_cut, line_seen}
 use Rattle.json_verdict.proofs.stream.Stream.take_all.Goals as goal
 
@@ -13,6 +13,6 @@ lines-preserved g c =
       λ input start f.
           let taken = c.take.ensures (input ++ seen) start _ (follows input start f) in
           let ended = c.in_ok-end_line.ensures ((input ++ seen) ++ line) start taken in
-          subst (λ l. Follows c.end_line.new.self l start (g.W.Write.contents c.end_line.new.writer))
+          subst (λ l. HasTaken c.end_line.new.self l start (g.W.Write.contents c.end_line.new.writer))
           (line_seen input seen line) ended,
     )

@@ -1,6 +1,6 @@
 use Rattle.std.proofs.Common.{◌≡◌, ℕ, List, ◌++◌, length}
 use Rattle.std.specs.Prelude.{Option}
-use Rattle.json_verdict.specs.walk.Lines.{Follows}
+use Rattle.json_verdict.specs.walk.Lines.{HasTaken}
 use Rattle.json_verdict.proofs.stream.Stream.take_all.Given as goal
 
 abbrev pub decreases-lines : goal.decreases-lines
@@ -10,5 +10,5 @@ decreases-lines g l = length l.rest
 abbrev pub invariant-lines : goal.invariant-lines
 invariant-lines g l =
     (seen : List ℕ) × (l.bytes ≡ seen ++ l.rest)
-    × ((input : List ℕ) (start : Option (List ℕ)) → Follows l.initial.self input start (g.W.Write.contents l.initial.writer)
-    → Follows l.self (input ++ seen) start (g.W.Write.contents l.writer))
+    × ((input : List ℕ) (start : Option (List ℕ)) → HasTaken l.initial.self input start (g.W.Write.contents l.initial.writer)
+    → HasTaken l.self (input ++ seen) start (g.W.Write.contents l.writer))

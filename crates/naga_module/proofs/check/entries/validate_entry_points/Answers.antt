@@ -7,7 +7,7 @@ use Rattle.check_entry.specs.EntryFaults.{fault_of}
 use Rattle.check_entry.specs.InterfacePoints.{HasPayloadSizes}
 use Rattle.check_laws.specs.EntryJudgement.{entry_judgement}
 use Rattle.check_statement.specs.FunctionJudgement.{FunctionOutcome}
-use Rattle.check_statement.specs.ValidatorParts.{Parts}
+use Rattle.check_statement.specs.ValidatorParts.{ValidatorParts}
 use Rattle.check_entry.specs.GivenInfos.{AreInfosOf}
 use Rattle.naga_module.specs.CodeModule.{EntriesLead, EntriesStop}
 use Rattle.check_faults.specs.declared.module.ModuleFault.TheVariants as fault
@@ -19,11 +19,11 @@ loop-index-init g c = record { place = ap length c.requires.first; kept = refl; 
 
 pub validate_entry_point-answer-requires-clause-infos : goal.validate_entry_point-answer-requires-clause-infos
 validate_entry_point-answer-requires-clause-infos g c =
-    subst (λ (v : Parts g.row.B.Denot). AreInfosOf c.args.module.now v.types) (sym c.loop-index.invariant.kept) c.requires.infos
+    subst (λ (v : ValidatorParts g.row.B.Denot). AreInfosOf c.args.module.now v.types) (sym c.loop-index.invariant.kept) c.requires.infos
 
 pub validate_entry_point-answer-requires-clause-sizes : goal.validate_entry_point-answer-requires-clause-sizes
 validate_entry_point-answer-requires-clause-sizes g c =
-    subst (λ (v : Parts g.row.B.Denot). HasPayloadSizes (g.B.Below.meaning v.below) c.args.module.now) (sym c.loop-index.invariant.kept) c.requires.sizes
+    subst (λ (v : ValidatorParts g.row.B.Denot). HasPayloadSizes (g.B.Below.meaning v.below) c.args.module.now) (sym c.loop-index.invariant.kept) c.requires.sizes
 
 pub returns-then-not-fits-clause-refused : goal.returns-then-not-fits-clause-refused
 returns-then-not-fits-clause-refused g c =
@@ -46,7 +46,7 @@ returns-in-Err-Fault-clause-refused g c =
     let lt = rw c.len-index-end.ensures at c.loop-index-test.true in
     let held = c.if-not-fits.ensures.0 refl in
     let judged =
-    subst (λ (w : Parts g.row.B.Denot). entry_judgement (g.B.Below.meaning w.below) w.settings w.types w.trace m now p ≡ Err (fault_of error)) c.loop-index.invariant.kept
+    subst (λ (w : ValidatorParts g.row.B.Denot). entry_judgement (g.B.Below.meaning w.below) w.settings w.types w.trace m now p ≡ Err (fault_of error)) c.loop-index.invariant.kept
     (rw c.in-Err-Fault.field-0-is at c.in-Err-Fault.ensures.judged) in
     let told = entry_faulty (g.B.Below.meaning v.below) v.settings v.types m v.trace c.args.infos.now c.loop-index.validator.trace now c.loop-index.index p c.index-ep.ensures lt c.loop-index.invariant.leads
     (subst (λ n. FitsFunction p.function m n) c.len.ensures held.0, held.1) error judged in
@@ -63,12 +63,12 @@ loop-index-preserved g c =
     let held = c.if-not-fits.ensures.0 refl in
     let outcome : FunctionOutcome = record { info = c.in-Ok.info; trace = left } in
     let judged =
-    subst (λ (w : Parts g.row.B.Denot). entry_judgement (g.B.Below.meaning w.below) w.settings w.types w.trace m now p ≡ Ok outcome) c.loop-index.invariant.kept c.in-Ok.ensures.judged in
+    subst (λ (w : ValidatorParts g.row.B.Denot). entry_judgement (g.B.Below.meaning w.below) w.settings w.types w.trace m now p ≡ Ok outcome) c.loop-index.invariant.kept c.in-Ok.ensures.judged in
     let on = entry_passes (g.B.Below.meaning v.below) v.settings v.types m v.trace c.args.infos.now c.loop-index.validator.trace now c.loop-index.index p c.index-ep.ensures lt c.loop-index.invariant.leads
     (subst (λ n. FitsFunction p.function m n) c.len.ensures held.0, held.1) outcome judged in
     record {
       place = ap length c.in_ok-push-in-Ok.ensures.pushed ∙ length-append now.entry_points (c.in-Ok.info ∷ []) ∙ ap (λ n. n + 1) c.loop-index.invariant.place;
-      kept = c.validate_entry_point-answer.ensures.kept ∙ ap (λ (w : Parts g.row.B.Denot). record w { trace = left }) c.loop-index.invariant.kept;
+      kept = c.validate_entry_point-answer.ensures.kept ∙ ap (λ (w : ValidatorParts g.row.B.Denot). record w { trace = left }) c.loop-index.invariant.kept;
       leads = subst (λ (l : List FunctionInfo). EntriesLead (g.B.Below.meaning v.below) v.settings v.types m v.trace c.args.infos.now m.entry_points left (record now { entry_points = l }) (drop (c.loop-index.index + 1) m.entry_points))
           (sym c.in_ok-push-in-Ok.ensures.pushed) on;
     }

@@ -10,7 +10,7 @@ use Rattle.check_entry.specs.EntryVaryings.{with_blending}
 use Rattle.check_entry.specs.InterfacePoints.{interface_points}
 use Rattle.check_entry.specs.Start.{start_points}
 use Rattle.check_statement.specs.FunctionJudgement.{FunctionOutcome, function_judgement}
-use Rattle.check_statement.specs.ValidatorParts.{Parts}
+use Rattle.check_statement.specs.ValidatorParts.{ValidatorParts}
 use Rattle.check_laws.specs.EntryJudgement.{entry_judgement, entry_outcome, of_function}
 use Rattle.check_laws.proofs.EntryBodies.{entry_is_of_all_stages, entry_has_whole_switches}
 use Rattle.check_laws.proofs.EntryBuiltIns.{accepted_built_ins}
@@ -80,8 +80,8 @@ accepted g c =
     let trace = c.validate_function.new.self.trace in
     let program = c.args.module.now in
     let function : FunctionOutcome = record { info = c.in-Ok.info; trace = trace } in
-    let held = subst (λ (w : Parts _). first_fault (interface_points (g.B.Below.meaning w.below) w.settings w.types program ep c.in-Ok.info) ≡ None) c.validate_function.ensures.kept c.in-Ok-judge_interface.ensures.fault in
-    let info = subst (λ (w : Parts _). c.judge_interface.new.info ≡ with_blending program.types w.types ep (with_own_uses ep c.in-Ok.info)) c.validate_function.ensures.kept c.in-Ok-judge_interface.ensures.info in
+    let held = subst (λ (w : ValidatorParts _). first_fault (interface_points (g.B.Below.meaning w.below) w.settings w.types program ep c.in-Ok.info) ≡ None) c.validate_function.ensures.kept c.in-Ok-judge_interface.ensures.fault in
+    let info = subst (λ (w : ValidatorParts _). c.judge_interface.new.info ≡ with_blending program.types w.types ep (with_own_uses ep c.in-Ok.info)) c.validate_function.ensures.kept c.in-Ok-judge_interface.ensures.info in
     interface_decides below v.settings v.types v.trace program c.args.mod_info.now ep none function (Ok (record { info = c.judge_interface.new.info; trace = trace })) (ap of_function c.in-Ok.ensures.judged)
     (points_pass (interface_points below v.settings v.types program ep c.in-Ok.info) (entry_outcome below v.settings v.types program ep function) held ∙ ap (λ (i : FunctionInfo). Ok (record { info = i; trace = trace })) (sym info))
 
@@ -107,7 +107,7 @@ returns-in-Err-judge_interface-clause-judged g c =
     let program = c.args.module.now in
     let function : FunctionOutcome = record { info = c.in-Ok.info; trace = c.validate_function.new.self.trace } in
     let points = interface_points below v.settings v.types program ep c.in-Ok.info in
-    let refused = subst (λ (w : Parts _). Answers {A = FunctionOutcome} (FirstOf (interface_points (g.B.Below.meaning w.below) w.settings w.types program ep c.in-Ok.info)) (Err (refusal_read_by fault_of c.into_refusal.result))) c.validate_function.ensures.kept (search (rules, c.in-Err-judge_interface.ensures.fault, c.into_refusal.ensures)) in
+    let refused = subst (λ (w : ValidatorParts _). Answers {A = FunctionOutcome} (FirstOf (interface_points (g.B.Below.meaning w.below) w.settings w.types program ep c.in-Ok.info)) (Err (refusal_read_by fault_of c.into_refusal.result))) c.validate_function.ensures.kept (search (rules, c.in-Err-judge_interface.ensures.fault, c.into_refusal.ensures)) in
     interface_decides below v.settings v.types v.trace program c.args.mod_info.now ep none function (Err c.into_refusal.result) (ap of_function c.in-Ok.ensures.judged)
     (points_refuse points (entry_outcome below v.settings v.types program ep function) (Err c.into_refusal.result) (search rules) refused)
 

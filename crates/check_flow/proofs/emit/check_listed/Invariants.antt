@@ -4,7 +4,7 @@ use Rattle.ir_arena.specs.Points.{first_fault}
 use Rattle.check_scope.specs.ScopePoints.{use_point}
 use Rattle.check_scope.specs.walk.Place.{place_at}
 use Rattle.check_scope.specs.walk.Table.{known}
-use Rattle.check_flow.proofs.control.listed_hold.Given as goal
+use Rattle.check_flow.proofs.emit.check_listed.Given as goal
 
 -- what is left decides
 abbrev pub invariant-loop-index : goal.invariant-loop-index

@@ -1,7 +1,7 @@
 use Rattle.std.proofs.Common.{◌≡◌, ◌-◌, length}
 use Rattle.check_statement.specs.ExpressionStages.{with_stages, stages_from, expressions_step}
 use Rattle.check_statement.specs.walk.AskedContext.{asked_context}
-use Rattle.naga_valid.proofs.validator.Validator.meet_expressions.Given as goal
+use Rattle.naga_valid.proofs.validator.Validator.check_expressions.Given as goal
 
 -- what is left decides, and nothing but the stages changed
 abbrev pub invariant-loop-index : goal.invariant-loop-index

@@ -2,7 +2,7 @@ use Rattle.check_flow.specs.Control.{emitted_points}
 use Rattle.check_scope.specs.walk.Place.{place_at}
 use Rattle.check_scope.specs.walk.SeenContext.{context_of}
 use Rattle.check_scope.specs.walk.Table.{known}
-use Rattle.check_flow.proofs.control.first_fault_of_emitted.Goals as goal
+use Rattle.check_flow.proofs.emit.first_fault_of_emitted.Goals as goal
 
 pub returns-clause-fault : goal.returns-clause-fault
 returns-clause-fault c =

@@ -5,7 +5,7 @@ use Rattle.check_statement.specs.ExpressionStages.{of_expression}
 use Rattle.check_statement.specs.walk.AskedContext.{asked_context}
 use Rattle.check_statement.specs.StageSets.{meet}
 use Rattle.naga_valid.proofs.ExpressionSteps.{asked_is, step_begins, mask_met, mask_refused, masks_end}
-use Rattle.naga_valid.proofs.validator.Validator.meet_expressions.Goals as goal
+use Rattle.naga_valid.proofs.validator.Validator.check_expressions.Goals as goal
 
 pub loop-index-init : goal.loop-index-init
 loop-index-init g c =

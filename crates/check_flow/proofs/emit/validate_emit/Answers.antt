@@ -10,7 +10,7 @@ use Rattle.check_scope.proofs.Columns.{both_put}
 use Rattle.check_scope.proofs.Operands.{put_operands}
 use Rattle.check_flow.proofs.Emits.{asked_is, emitted_new, emit_stops, emit_stops_alone, emit_next, emit_none}
 use Rattle.check_flow.proofs.Lists.{between_more, between_end}
-use Rattle.check_flow.proofs.control.validate_emit.Goals as goal
+use Rattle.check_flow.proofs.emit.validate_emit.Goals as goal
 
 pub returns-in_err-check_emitted-clause-fault : goal.returns-in_err-check_emitted-clause-fault
 returns-in_err-check_emitted-clause-fault c =

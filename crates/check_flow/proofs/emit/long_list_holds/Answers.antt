@@ -5,7 +5,7 @@ use Rattle.check_scope.specs.walk.SeenContext.{context_of}
 use Rattle.check_scope.specs.walk.Table.{ArePutUpTo, kept_at, known, shown}
 use Rattle.check_scope.proofs.Operands.{all_usable, each_usable}
 use Rattle.check_flow.proofs.Kept.{kept_unless_refused}
-use Rattle.check_flow.proofs.control.long_list_holds.Goals as goal
+use Rattle.check_flow.proofs.emit.long_list_holds.Goals as goal
 
 pub last_of-requires : goal.last_of-requires
 last_of-requires c =

@@ -6,7 +6,7 @@ use Rattle.check_flow.specs.walk.Emitted.{handles_between}
 use Rattle.check_scope.specs.walk.SeenContext.{context_of}
 use Rattle.check_scope.specs.BodyTrees.{emitted_operands}
 use Rattle.check_scope.specs.walk.Table.{HasPut, KnowsOperands, known}
-use Rattle.check_flow.proofs.control.validate_emit.Given as goal
+use Rattle.check_flow.proofs.emit.validate_emit.Given as goal
 
 abbrev pub invariant-loop-index : goal.invariant-loop-index
 invariant-loop-index l = record {

@@ -5,7 +5,7 @@ use Rattle.check_scope.specs.walk.Place.{place_at}
 use Rattle.check_scope.specs.walk.SeenContext.{context_of}
 use Rattle.check_scope.specs.walk.Table.{known}
 use Rattle.check_flow.proofs.Emits.{emitted_stops, emitted_last}
-use Rattle.check_flow.proofs.control.check_emitted_points.Goals as goal
+use Rattle.check_flow.proofs.emit.check_emitted_points.Goals as goal
 
 pub returns-in_err-check_operands : goal.returns-in_err-check_operands
 returns-in_err-check_operands c =

@@ -4,7 +4,7 @@ use Rattle.check_scope.specs.walk.Place.{place_at}
 use Rattle.check_scope.specs.walk.SeenContext.{context_of}
 use Rattle.check_scope.specs.walk.Table.{known}
 use Rattle.check_flow.proofs.Emits.{emitted_passes, emitted_fails}
-use Rattle.check_flow.proofs.control.emitted_holds.Goals as goal
+use Rattle.check_flow.proofs.emit.emitted_holds.Goals as goal
 
 pub returns-clause-holds : goal.returns-clause-holds
 returns-clause-holds c =
