@@ -70,8 +70,8 @@ variable_points program mesh =
 abbrev pub has_topology : Capabilities → MeshOutputTopology → Bool
 has_topology capabilities topology = not (is_points topology) || has_capability capabilities MESH_SHADER_POINT_TOPOLOGY
 
--- what is said of the mesh, where this is implied, with these overrides of its two numbers: just that; and where it is one of
--- points, the target has these
+-- what is stated of the mesh, where this is implied, with these overrides of its two numbers: just that; and where it is one
+-- of points, the target has these
 abbrev pub stated_points : Capabilities → Module → List (Option ℕ) → MeshStageInfo → MeshStageInfo → EntryPoints
 stated_points capabilities program overrides implied mesh = (
   is_implied (get_or overrides 0 None) (override_at program.global_expressions mesh.max_vertices_override),
@@ -85,9 +85,9 @@ stated_points capabilities program overrides implied mesh = (
     ∷ (has_topology capabilities mesh.topology, fault.UnsupportedCapability MESH_SHADER_POINT_TOPOLOGY)
     ∷ []
 
--- what is said of the mesh, where the lower layer finds this out about its output variable
-abbrev pub said_points : Capabilities → Module → MeshAnalysis → MeshStageInfo → EntryPoints
-said_points capabilities program analysis mesh =
+-- what the output variable of the mesh implies, where the lower layer finds this out about it
+abbrev pub implied_points : Capabilities → Module → MeshAnalysis → MeshStageInfo → EntryPoints
+implied_points capabilities program analysis mesh =
     analysis_points analysis.fault ++ stated_points capabilities program analysis.overrides analysis.implied mesh
 
 -- the whole mesh
@@ -95,5 +95,5 @@ abbrev pub mesh_points : Meaning → Settings → List TypeInfo → Module → E
 mesh_points below settings infos program ep None = []
 mesh_points below settings infos program ep (Some mesh) =
     within fault_of (variable_points program mesh)
-    ++ (within fault_of (said_points settings.capabilities program (below.mesh_analysis program mesh.output_variable) mesh)
+    ++ (within fault_of (implied_points settings.capabilities program (below.mesh_analysis program mesh.output_variable) mesh)
     ++ outputs_points settings program.types infos ep mesh.vertex_output_type mesh.primitive_output_type)

@@ -101,7 +101,7 @@ fn has_topology(capabilities: Capabilities, topology: MeshOutputTopology) -> boo
     !is_points(topology) || capabilities.contains(Capabilities::MESH_SHADER_POINT_TOPOLOGY)
 }
 
-/// What is said of the mesh, where this is implied, with these overrides of its two numbers: just that; and where it is
+/// What is stated of the mesh, where this is implied, with these overrides of its two numbers: just that; and where it is
 /// one of points, the target has these.
 pub(crate) fn check_stated(
     capabilities: Capabilities,

@@ -26,7 +26,7 @@ use Rattle.check_entry.specs.EntryFaults.{EntryFault, OfArgument, OfResult, faul
 use Rattle.check_entry.specs.UsedGlobals.{globals_points}
 use Rattle.check_entry.specs.InterfacePoints.{interface_points}
 use Rattle.check_laws.specs.EntryFacts.{TakesLocation, LocationsAreDistinct, GroupsAreDistinct, mesh_items, AcceptedLocationsAreDistinct}
-use Rattle.check_entry.specs.Mesh.{mesh_points, said_points, variable_points}
+use Rattle.check_entry.specs.Mesh.{mesh_points, implied_points, variable_points}
 use Rattle.check_entry.specs.EntryUses.{with_own_uses}
 use Rattle.check_entry.specs.EntryVaryings.{argument_item, argument_points, declared_points, output_item, output_points, outputs_points, primitive_points, result_items, result_points, vertex_points}
 use Rattle.check_laws.proofs.EntryAccepted.{accepted_entry}
@@ -172,8 +172,8 @@ module _ (below : Meaning) (settings : Settings) (infos : List TypeInfo) (progra
       let vertices = placed_parts types infos vertex in
       let primitives = placed_parts types infos primitive in
       let outputs = outputs_points settings types infos ep mesh.vertex_output_type mesh.primitive_output_type in
-      let said = within fault_of (said_points settings.capabilities program (below.mesh_analysis program mesh.output_variable) mesh) in
-      let of_outputs = (both_hold said outputs (both_hold (within fault_of (variable_points program mesh)) (said ++ outputs) none).1).1 in
+      let implied = within fault_of (implied_points settings.capabilities program (below.mesh_analysis program mesh.output_variable) mesh) in
+      let of_outputs = (both_hold implied outputs (both_hold (within fault_of (variable_points program mesh)) (implied ++ outputs) none).1).1 in
       let both = both_hold (vertex_points settings types infos ep mesh.vertex_output_type) (primitive_points settings types infos ep vertices mesh.primitive_output_type) of_outputs in
       let first = none_within OfResult (item_points types infos [] vertex) (first_holds _ _ (within OfResult (item_points types infos [] vertex)) (both_hold (output_points settings types infos ep VertexOutput [] mesh.vertex_output_type) _ both.0).0).1 in
       let second = none_within OfResult (item_points types infos vertices primitive) (first_holds _ _ (within OfResult (item_points types infos vertices primitive)) (both_hold (output_points settings types infos ep PrimitiveOutput vertices mesh.primitive_output_type) _ both.1).0).1 in

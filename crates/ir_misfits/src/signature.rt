@@ -1,10 +1,10 @@
 //! Whether the signature of a function fits, and what doesn't fit of it.
 
-ghost use Rattle.std.specs.Prelude.{◌<◌, ◌↔◌, ◌≡◌, IsTrue, IfSome, All, false, slice_get, unwrap_or};
+ghost use Rattle.std.specs.Prelude.{◌<◌, ◌↔◌, ◌≡◌, IsTrue, IfSome, IfOk, All, false, slice_get, unwrap_or};
 ghost use Rattle.ir_arena.specs.Points.{points_of_each};
 ghost use Rattle.ir_facts.specs.FitsBody.{SignatureFits, CalleeFits};
 ghost use Rattle.ir_misfits.specs.OfSignatures.{argument_points, outcome_points, signature_points, callee_points};
-ghost use Rattle.ir_misfits.specs.FittingSignatures.{MarkFitting};
+ghost use Rattle.ir_misfits.specs.FittingSignatures.{AreFittingMarks, MarkFitting};
 ghost use Rattle.ir_facts.specs.Answers.{Finds, FirstOf};
 
 use crate::misfit::{HandleOf, Misfit, Owner, Place};
@@ -12,7 +12,7 @@ use ir_arena::handle::Handle;
 use ir_arena::tag;
 use ir_module::functions::{Function, FunctionArgument, FunctionResult};
 use ir_module::module::Module;
-use std::alloc::Global;
+use std::alloc::{AllocError, Global};
 
 /// Of so many types: whether that of each argument is there.
 fn arguments_fit(arguments: &[FunctionArgument], types: usize) -> bool
@@ -71,20 +71,27 @@ pub fn check_signature(owner: Owner, fun: &Function, module: &Module) -> Result<
     check_outcome(owner, fun.result, module.types.len())
 }
 
-/// A mark for each function of the module, by its handle: whether its signature fits. Where there is no memory for all,
-/// the last ones have none.
+/// A mark for each function of the module, by its handle: whether its signature fits. An Err is out of memory.
 ///
 /// A function that many Calls and results of calls name is then looked at once.
-pub fn fitting_signatures(alloc: Global, module: &Module) -> Vec<bool>
-    ensures { MarkFitting «module».now result.items }
+pub fn fitting_signatures(alloc: Global, module: &Module) -> Result<Vec<bool>, AllocError>
+    ensures { IfOk result (λ marks. AreFittingMarks «module».now marks.items) }
 {
     let mut marks = Vec::new(alloc);
     for fun in module.functions.as_slice() {
-        if marks.push(signature_fits(fun, module)).is_err() {
-            return marks;
-        }
+        marks.push(signature_fits(fun, module))?;
     }
-    marks
+    Ok(marks)
+}
+
+/// The marks of the functions whose signatures fit, or no mark where there is no memory for all.
+pub fn known_fitting(alloc: Global, module: &Module) -> Vec<bool>
+    ensures { MarkFitting «module».now result.items }
+{
+    match fitting_signatures(alloc, module) {
+        Ok(marks) => marks,
+        Err(_) => Vec::new(alloc),
+    }
 }
 
 /// Whether the signature of a function is among those that are known to fit.

@@ -28,7 +28,7 @@ use ir_facts::below::Below;
 use ir_facts::valid::info::ModuleInfo;
 use ir_facts::valid::settings::Settings;
 use ir_fits::{fits_globals, fits_types};
-use ir_misfits::signature::fitting_signatures;
+use ir_misfits::signature::known_fitting;
 use ir_module::module::Module;
 use ir_types::type_info::TypeInfo;
 use ir_types::typifier::TypeResolution;
@@ -143,7 +143,7 @@ pub fn check_module<B: Below + Drop>(
         return Err(ModuleFault::NotFit);
     }
     validate_globals(alloc, &validator, module, &infos)?;
-    let marks = fitting_signatures(alloc, module);
+    let marks = known_fitting(alloc, module);
     let fitting = marks.as_slice();
     validate_functions(alloc, &mut validator, module, fitting, &mut infos)?;
     if !validator.has_payload_sizes(module) {

@@ -15,7 +15,7 @@ use ir_arena::tag;
 use ir_facts::below::Below;
 use ir_fits::{check_entry_fits, check_function_fits, check_globals_fit, check_types_fit};
 use ir_misfits::misfit::{HandleOf, Misfit, Owner, Place, Problem, VariableField};
-use ir_misfits::signature::fitting_signatures;
+use ir_misfits::signature::known_fitting;
 use ir_module::functions::Function;
 use ir_module::module::{EntryPoint, GlobalVariable, Module};
 use ir_types::type_info::{Disalignment, TypeInfo};
@@ -48,7 +48,7 @@ pub fn find_misfit<B: Below>(
 {
     let types = given.types.as_slice();
     let global_types = given.global_types.as_slice();
-    let marks = fitting_signatures(alloc, module);
+    let marks = known_fitting(alloc, module);
     check_all_fit(below, types, global_types, module, marks.as_slice()).err()
 }
 

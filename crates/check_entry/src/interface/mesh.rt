@@ -2,7 +2,7 @@
 
 ghost use Rattle.ir_arena.specs.Points.{within};
 ghost use Rattle.check_entry.specs.EntryFaults.{fault_of};
-ghost use Rattle.check_entry.specs.Mesh.{said_points};
+ghost use Rattle.check_entry.specs.Mesh.{implied_points};
 ghost use Rattle.ir_facts.specs.Answers.{Answers, FirstOf, read_by};
 
 use crate::answers::answer;
@@ -15,11 +15,11 @@ use ir_facts::proc::mesh::MeshAnalysis;
 use ir_module::module::MeshStageInfo;
 
 impl<'a, B: Below> InterfaceContext<'a, B> {
-    /// What is said of a mesh: the type of its output variable can be put out, and implies just that; and the target has
-    /// meshes of points, where this is one. A fault of the lower layer keeps its places.
+    /// What the output variable of a mesh implies: its type can be put out, and implies just what is stated; and the target
+    /// has meshes of points, where this is one. A fault of the lower layer keeps its places.
     #[tactic(auto, using(crate::proofs::EntrySteps::judges_within))]
-    pub(crate) fn check_said(&self, mesh: &MeshStageInfo) -> Result<(), Refused<EntryPointError>>
-        ensures { Answers (FirstOf (within fault_of (said_points self.now.settings.capabilities self.now.program.now
+    pub(crate) fn check_implied(&self, mesh: &MeshStageInfo) -> Result<(), Refused<EntryPointError>>
+        ensures { Answers (FirstOf (within fault_of (implied_points self.now.settings.capabilities self.now.program.now
             ((B.meaning self.now.below.now).mesh_analysis self.now.program.now mesh.now.output_variable) mesh.now)))
             (read_by fault_of result) }
     {

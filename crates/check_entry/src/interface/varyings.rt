@@ -275,7 +275,7 @@ impl<'a, B: Below> InterfaceContext<'a, B> {
         self.check_primitive_output(&mut state, mesh)
     }
 
-    /// The mesh: its output variable, what is said of it, and its outputs.
+    /// The mesh: its output variable, what that implies, and its outputs.
     pub(crate) fn check_mesh(&self) -> Result<(), Refused<EntryPointError>>
         requires infos { AreInfosOf self.now.program.now self.now.infos.now }
         requires types { FitsTypes self.now.program.now }
@@ -288,7 +288,7 @@ impl<'a, B: Below> InterfaceContext<'a, B> {
             return Ok(());
         };
         answer(self.alloc, check_variable(self.program, mesh))?;
-        self.check_said(mesh)?;
+        self.check_implied(mesh)?;
         self.check_outputs(mesh)
     }
 }

@@ -7,7 +7,6 @@ ghost use Rattle.check_entry.specs.InterfacePoints.{HasPayloadSizes};
 use crate::validator::Validator;
 use ir_facts::below::Below;
 use ir_module::module::{GlobalVariable, Module};
-use ir_types::types::AddressSpace;
 
 impl<B: Below> Validator<B> {
     /// Whether the lower layer knows the size of the type of each global in `TaskPayload`.
@@ -24,17 +23,6 @@ impl<B: Below> Validator<B> {
         ensures { IsTrue result ↔ (global.now.space ≡ space.TaskPayload →
             IsSome ((B.meaning self.now.below).size_of «module».now global.now.ty)) }
     {
-        match global.space {
-            AddressSpace::TaskPayload => self.below.type_size(module, global.ty).is_some(),
-            AddressSpace::Function
-            | AddressSpace::Private
-            | AddressSpace::WorkGroup
-            | AddressSpace::Uniform
-            | AddressSpace::Storage { .. }
-            | AddressSpace::Handle
-            | AddressSpace::Immediate
-            | AddressSpace::RayPayload
-            | AddressSpace::IncomingRayPayload => true,
-        }
+        !global.space.is_task_payload() || self.below.type_size(module, global.ty).is_some()
     }
 }

@@ -1,5 +1,6 @@
-use Rattle.std.proofs.Common.{◌≡◌, length}
-use Rattle.ir_misfits.specs.FittingSignatures.{MarkFitting}
+use Rattle.std.proofs.Common.{◌≡◌, ◌↔◌, length, true}
+use Rattle.ir_facts.specs.Each.{EachAt}
+use Rattle.ir_facts.specs.FitsBody.{CalleeFits}
 use Rattle.ir_misfits.proofs.signature.fitting_signatures.Given as goal
 
 -- one mark for each function so far
@@ -7,5 +8,5 @@ abbrev pub invariant-loop-fun : goal.invariant-loop-fun
 invariant-loop-fun l =
     record {
       place : length l.marks.items ≡ l.fun-index;
-      known : MarkFitting l.«module» l.marks.items;
+      exact : EachAt (λ h mark. (mark ≡ true) ↔ CalleeFits l.«module» h) l.marks.items;
     }
