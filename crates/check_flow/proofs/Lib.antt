@@ -3,7 +3,5 @@ pub mod Emits
 pub mod Calls
 pub mod Values
 pub mod Rising
-pub mod Once
-pub mod Among
-pub mod Distinct
 pub mod Kept
+pub mod ValueSets

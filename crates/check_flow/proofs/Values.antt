@@ -1,12 +1,9 @@
 -- The values of a Switch's cases: the set of earlier ones, as the code keeps it.
-use Rattle.std.proofs.Common.{◌≡◌, ℕ, ◌+◌, ◌<◌, ◌==◌, Bool, true, false, not, ◌||◌, Option, Some, List, [], ◌∷◌, ◌++◌, cond, length, take, drop, get_or, refl, sym, ap, ◌∙◌, arith, int_eq, ℤ}
+use Rattle.std.proofs.Common.{◌≡◌, ℕ, ◌+◌, ◌<◌, ◌==◌, Bool, true, false, not, Option, Some, List, [], ◌∷◌, ◌++◌, cond, length, take, drop, get_or, refl, sym, ap, ◌∙◌, arith, int_eq, ℤ}
 use Rattle.std.specs.Ordering.{int_cmp, nat_cmp, is_eq}
 use Rattle.std.proofs.lemmas.Bool.Decides.{nat_tests}
-use Rattle.std.proofs.lemmas.Cmp.{int_eq_equiv}
-use Rattle.std.proofs.lemmas.List.Folds.{list_any-append}
 use Rattle.std.proofs.lemmas.List.{at_drop_more, take_more}
 use Rattle.std.specs.List.{list_any}
-use Rattle.std.specs.BTreeSet.{BTreeSet, contains, IsEmpty}
 use Rattle.ir_statements.specs.contracts.operations.SwitchValueOrd.TheImpl as value_order
 use Rattle.ir_statements.specs.declared.statements.SwitchCase.{SwitchCase, out-SwitchCase}
 use Rattle.ir_statements.specs.declared.operations.SwitchValue.{SwitchValue}
@@ -21,45 +18,19 @@ use Rattle.check_flow.specs.Switch.{same_value, value_points, values_of, has_sig
 nats_by_order : (m n : ℕ) → is_eq (nat_cmp m n) ≡ (m == n)
 nats_by_order m n = grind (arith, nat_tests)
 
-nats_turned : (m n : ℕ) → (m == n) ≡ (n == m)
-nats_turned m n = grind (arith, nat_tests)
-
 ints_by_order : (m n : ℤ) → is_eq (int_cmp m n) ≡ int_eq m n
 ints_by_order m n = refl
 
-ints_turned : (m n : ℤ) → int_eq m n ≡ int_eq n m
-ints_turned m n = int_eq_equiv.symm m n
-
-same_by_order : (v w : SwitchValue) → is_eq ((value_order.ghosts).cmp v w) ≡ same_value v w
+pub same_by_order : (v w : SwitchValue) → is_eq ((value_order.ghosts).cmp v w) ≡ same_value v w
 same_by_order (I32 m) (I32 n) = ints_by_order m n
 same_by_order (U32 m) (U32 n) = nats_by_order m n
 same_by_order Default Default = refl
 same_by_order _ _ = refl
 
-same_turned : (v w : SwitchValue) → same_value v w ≡ same_value w v
-same_turned (I32 m) (I32 n) = ints_turned m n
-same_turned (U32 m) (U32 n) = nats_turned m n
-same_turned Default Default = refl
-same_turned _ _ = refl
-
--- the set has the values of these cases
-abbrev pub HasValues : BTreeSet SwitchValue → List SwitchCase → Type 0
-HasValues set cases =
-    (v : SwitchValue) → contains (value_order.ghosts).cmp set v ≡ list_any (same_value v) (values_of (case_list cases))
-
-pub has_none : (set : BTreeSet SwitchValue) → IsEmpty set → HasValues set []
-has_none set e v = ap (λ keys. list_any (λ k. is_eq ((value_order.ghosts).cmp v k)) keys) e
-
 -- what is new was not held
 pub not_held : (new held : Bool) → new ≡ true → new ≡ not held → held ≡ false
 not_held new false e f = refl
 not_held new true e f = sym e ∙ f
-
-chosen : (b c : Bool) → cond b true c ≡ (c || (b || false))
-chosen true true = refl
-chosen true false = refl
-chosen false true = refl
-chosen false false = refl
 
 values-append : (xs ys : List SwitchCase) → values_of (case_list (xs ++ ys)) ≡ values_of (case_list xs) ++ values_of (case_list ys)
 values-append [] ys = refl
@@ -72,17 +43,6 @@ module _ (cs : List SwitchCase) (i : ℕ) (c : SwitchCase) (lt : i < length cs) 
       ap (λ l. values_of (case_list l)) (take_more cs i c lt)
       ∙ ap (λ z. values_of (case_list (take i cs ++ (z ∷ [])))) (sym e)
       ∙ values-append (take i cs) (c ∷ [])
-
-  pub has_more : (old new : BTreeSet SwitchValue) → HasValues old (take i cs) →
-      ((q : SwitchValue) → contains (value_order.ghosts).cmp new q ≡ cond (is_eq ((value_order.ghosts).cmp (out-SwitchCase c).value q)) true (contains (value_order.ghosts).cmp old q)) →
-      HasValues new (take (i + 1) cs)
-  has_more old new has u q =
-      u q
-      ∙ ap (λ b. cond b true (contains (value_order.ghosts).cmp old q)) (same_by_order (out-SwitchCase c).value q ∙ same_turned (out-SwitchCase c).value q)
-      ∙ chosen (same_value q (out-SwitchCase c).value) (contains (value_order.ghosts).cmp old q)
-      ∙ ap (λ b. b || (same_value q (out-SwitchCase c).value || false)) (has q)
-      ∙ sym (list_any-append (same_value q) (values_of (case_list (take i cs))) ((out-SwitchCase c).value ∷ []))
-      ∙ ap (list_any (same_value q)) (sym earlier)
 
   pub values_turn : (ty : Option ScalarKind) → first_fault (value_points ty (values_of (case_list (take i cs))) (values_of (case_list (drop i cs))))
       ≡ cond (has_signedness_of ty (out-SwitchCase c).value) (cond (not (list_any (same_value (out-SwitchCase c).value) (values_of (case_list (take i cs))))) (first_fault (value_points ty (values_of (case_list (take (i + 1) cs))) (values_of (case_list (drop (i + 1) cs))))) (Some (repeated_fault (out-SwitchCase c).value))) (Some ConflictingCaseType)

@@ -4,6 +4,6 @@
 
 pub mod call;
 pub mod control;
-mod digits;
 pub mod emit;
 pub mod switch;
+mod value_set;

@@ -1,6 +1,6 @@
 //! The check list of Switch.
 
-ghost use Rattle.std.specs.Prelude.{◌≡◌, [], None, true, IsTrue, IfOk};
+ghost use Rattle.std.specs.Prelude.{◌≡◌, [], None, true, IsTrue};
 ghost use Rattle.std.specs.List.{list_any};
 ghost use Rattle.ir_arena.specs.Points.{first_fault};
 ghost use Rattle.ir_statements.specs.declared.statements.SwitchCase.{out-SwitchCase};
@@ -9,10 +9,10 @@ ghost use Rattle.check_flow.specs.Switch.{has_signedness_of, is_default, repeate
 ghost use Rattle.ir_facts.specs.Answers.{Answers, Finds, FirstOf};
 ghost use Rattle.check_scope.specs.walk.Place.{place_at};
 ghost use Rattle.check_scope.specs.walk.SeenContext.{context_of};
-ghost use Rattle.check_flow.specs.walk.SwitchParts.{StandOnce, selector_points, cases_points, number_of, risen, risen_to};
+ghost use Rattle.check_flow.specs.walk.SwitchParts.{selector_points, cases_points, risen, risen_to};
 ghost use Rattle.check_scope.specs.walk.Table.{known};
 
-use crate::digits::sort_numbers;
+use crate::value_set::ValueSet;
 use check_scope::context::BlockContext;
 use check_scope::refuse::{answer, check_use};
 use check_scope::table::ScopeColumn;
@@ -24,8 +24,7 @@ use ir_errors::function::FunctionError;
 use ir_leaves::scalars::ScalarKind;
 use ir_statements::operations::SwitchValue;
 use ir_statements::statements::SwitchCase;
-use std::alloc::{AllocError, Global};
-use std::collections::BTreeSet;
+use std::alloc::Global;
 
 /// Switch: its selector, each case value, and the cases as a whole.
 #[inline(never)]
@@ -68,7 +67,7 @@ fn check_values(
 ) -> Result<(), Refused<FunctionError>>
     ensures { Answers (FirstOf (value_points selector [] (values_of (case_list cases.now)))) result }
 {
-    if are_rising(selector, cases) || are_distinct(alloc, selector, cases)? {
+    if are_rising(selector, cases) {
         return Ok(());
     }
     check_each_value(alloc, selector, cases, span)
@@ -133,56 +132,7 @@ fn risen_to(so_far: Rising, number: i64) -> Option<Rising>
     })
 }
 
-/// Whether all values have the selector's signedness and no two of them have one number: then no value stands twice. Where a
-/// value has the default's number, this answers false.
-fn are_distinct(
-    alloc: Global,
-    selector: Option<ScalarKind>,
-    cases: &[SwitchCase],
-) -> Result<bool, AllocError>
-    ensures { IfOk result (λ distinct. IsTrue distinct →
-        first_fault (value_points selector [] (values_of (case_list cases.now))) ≡ None) }
-{
-    let mut numbers = Vec::with_capacity(alloc, cases.len())?;
-    for case in cases {
-        if !has_signedness_of(selector, case.value) {
-            return Ok(false);
-        }
-        numbers.push(number_of(case.value))?;
-    }
-    sort_numbers(alloc, &mut numbers)?;
-    Ok(rise(numbers.as_slice()))
-}
-
-/// The number that distinguishes a value from others of its sign. That of the default is one that a case hardly has.
-fn number_of(value: SwitchValue) -> u32
-    ensures { result ≡ number_of value }
-{
-    match value {
-        SwitchValue::I32(number) => number.cast_unsigned(),
-        SwitchValue::U32(number) => number,
-        SwitchValue::Default => 3_141_592_653,
-    }
-}
-
-/// Whether each number is above the one before it: then none stands twice.
-fn rise(numbers: &[u32]) -> bool
-    ensures { IsTrue result → StandOnce numbers.now }
-{
-    let mut least = 0u64;
-    for number in numbers {
-        let number = *number as u64;
-        if number < least {
-            return false;
-        }
-        least = number + 1;
-    }
-    true
-}
-
-/// The case values in order, those of the earlier cases kept in a set, for the fault of the first that has one.
-#[cold]
-#[inline(never)]
+/// The case values in order, those of the earlier cases kept in a set.
 fn check_each_value(
     alloc: Global,
     selector: Option<ScalarKind>,
@@ -191,7 +141,7 @@ fn check_each_value(
 ) -> Result<(), Refused<FunctionError>>
     ensures { Answers (FirstOf (value_points selector [] (values_of (case_list cases.now)))) result }
 {
-    let mut earlier = BTreeSet::new(alloc);
+    let mut earlier = ValueSet::new(alloc, cases.len())?;
     for case in cases {
         if !has_signedness_of(selector, case.value) {
             return Err(Refused::placed(alloc, FunctionError::ConflictingCaseType, span));
@@ -258,7 +208,8 @@ fn ends_in_default(cases: &[SwitchCase]) -> bool
     }
 }
 
-fn is_default(value: SwitchValue) -> bool
+/// Whether a value is the default.
+pub(crate) fn is_default(value: SwitchValue) -> bool
     ensures { result ≡ is_default value }
 {
     match value {

@@ -1,7 +1,6 @@
 -- Parts of the check list of Switch, as the code checks them: work of lemmas, cited by functions that the validator alone calls.
-use Rattle.std.specs.Prelude.{◌≤◌, ◌==◌, ℕ, ℤ, List, pos, int_le, true, not, Option, None, Some, [], ◌∷◌, if◌then◌else◌}
-use Rattle.std.specs.Int.{cast_unsigned, w32}
-use Rattle.std.specs.List.{All, Contains, list_any, count_by}
+use Rattle.std.specs.Prelude.{ℕ, ℤ, pos, int_le, true, not, Option, None, Some, [], ◌∷◌, if◌then◌else◌}
+use Rattle.std.specs.List.{list_any}
 use Rattle.ir_statements.specs.Tree.{Cases}
 use Rattle.ir_statements.specs.declared.operations.SwitchValue.{SwitchValue}
 use Rattle.ir_statements.specs.declared.operations.SwitchValue.TheVariants.{I32, U32, Default}
@@ -35,21 +34,3 @@ risen so_far (I32 n) = risen_to so_far n
 risen so_far (U32 n) = risen_to so_far (pos n)
 risen so_far Default =
     if so_far.has_default then None else Some (record { last = so_far.last; has_default = true })
-
--- the number that tells a value from others of its sign; the default has one that a value hardly has
-abbrev pub number_of : SwitchValue → ℕ
-number_of (I32 n) = cast_unsigned w32 n
-number_of (U32 n) = n
-number_of Default = 3141592653
-
--- no number stands twice
-abbrev pub StandOnce : List ℕ → Type 0
-StandOnce numbers = (n : ℕ) → count_by (λ m. n == m) numbers ≤ 1
-
--- each of these numbers is one of others
-abbrev pub AreContained : List ℕ → List ℕ → Type 0
-AreContained numbers others = All (Contains others) numbers
-
--- of an old list and a new one: what was put in are numbers of another list, so no others came in
-abbrev pub PutsOnly : List ℕ → List ℕ → List ℕ → Type 0
-PutsOnly numbers old new = (others : List ℕ) → AreContained numbers others → AreContained old others → AreContained new others
