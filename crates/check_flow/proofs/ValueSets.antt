@@ -13,7 +13,7 @@ use Rattle.check_flow.specs.declared.value_set.ValueSet.{ValueSet}
 use Rattle.check_flow.specs.declared.value_set.Found.{Found}
 use Rattle.check_flow.specs.declared.value_set.Found.TheVariants.{Here, Free, Nowhere}
 use Rattle.check_flow.specs.Switch.{is_default, same_value}
-use Rattle.check_flow.specs.walk.ValueSet.{HasValues, IsAmong, IsKept, found, found_at, found_from, kept_as, number_of, start_of}
+use Rattle.check_flow.specs.walk.ValueSet.{HasValues, IsAmong, IsKept, found, found_at, found_from, found_near, kept_as, number_of, start_of}
 use Rattle.check_flow.proofs.Values.{same_by_order}
 
 -- values that are found equal are the same
@@ -198,15 +198,15 @@ module _ (v w : SwitchValue) (values : List SwitchValue) where
       by false is false alike f = absurd cc
 
 -- the values that are found near their places, but for the default
-found_near : (set : ValueSet) (v : SwitchValue) → is_default v ≡ false →
-    found set v ≡ found_from set.places.items v (start_of set.bits set.mask (number_of v)) 8
-found_near set v is = ap (λ b. if b then Nowhere else found_from set.places.items v (start_of set.bits set.mask (number_of v)) 8) is
+is_near : (set : ValueSet) (v : SwitchValue) → is_default v ≡ false →
+    found set v ≡ found_near set v
+is_near set v is = ap (λ b. if b then Nowhere else found_near set v) is
 
 -- the same, as the code looks
 pub looked : (set : ValueSet) (v : SwitchValue) (n start : ℕ) → is_default v ≡ false → n ≡ number_of v →
     start ≡ start_of set.bits set.mask n → found set v ≡ found_from set.places.items v start 8
 looked set v n start is number at =
-    found_near set v is
+    is_near set v is
     ∙ ap (λ m. found_from set.places.items v (start_of set.bits set.mask m) 8) (sym number)
     ∙ ap (λ p. found_from set.places.items v p 8) (sym at)
 
@@ -225,14 +225,14 @@ no_default : (set : ValueSet) (v : SwitchValue) (r : Found) → found set v ≡ 
 no_default set v r e ne = by (is_default v) refl e
   where
     by : (b : Bool) → is_default v ≡ b →
-        (if b then Nowhere else found_from set.places.items v (start_of set.bits set.mask (number_of v)) 8) ≡ r → is_default v ≡ false
+        (if b then Nowhere else found_near set v) ≡ r → is_default v ≡ false
     by false is f = is
     by true is f = absurd (ne (sym f))
 
 -- a free place that was found has the default
 pub was_free : (set : ValueSet) (v : SwitchValue) (q : ℕ) → found set v ≡ Free q → slice_get set.places.items q ≡ Some Default
 was_free set v q e =
-    let near = sym (found_near set v (no_default set v (Free q) e (λ f. cc))) ∙ e in
+    let near = sym (is_near set v (no_default set v (Free q) e (λ f. cc))) ∙ e in
     free_at set.places.items v (start_of set.bits set.mask (number_of v)) 8 q near
 
 module _ (set : ValueSet) (values : List SwitchValue) (has : HasValues set values) (v : SwitchValue) where
@@ -240,36 +240,8 @@ module _ (set : ValueSet) (values : List SwitchValue) (has : HasValues set value
   pub known : found set v ≡ Here → list_any (same_value v) values ≡ true
   known e =
       let no = no_default set v Here e (λ f. cc) in
-      let there = here_there set.places.items v (start_of set.bits set.mask (number_of v)) 8 (sym (found_near set v no) ∙ e) in
+      let there = here_there set.places.items v (start_of set.bits set.mask (number_of v)) 8 (sym (is_near set v no) ∙ e) in
       has.placed there.0 v there.1 no
-
-  -- one that has a free place is none of them
-  pub unknown : (q : ℕ) → found set v ≡ Free q → list_any (same_value v) values ≡ false
-  unknown q e = by (list_any (same_value v) values) refl
-    where
-      by : (b : Bool) → list_any (same_value v) values ≡ b → list_any (same_value v) values ≡ false
-      by false is = is
-      by true is = absurd (
-          let kept = has.all v is in
-          let free : kept_as (found set v) (contains (value_order.ghosts).cmp set.others v) ≡ false =
-          ap (λ r. kept_as r (contains (value_order.ghosts).cmp set.others v)) e in
-          let no : false ≡ true = sym free ∙ kept in
-          cc)
-
-  -- and of any other value the others know it
-  pub as_others : found set v ≡ Nowhere → contains (value_order.ghosts).cmp set.others v ≡ list_any (same_value v) values
-  as_others e = by (contains (value_order.ghosts).cmp set.others v) refl (list_any (same_value v) values) refl
-    where
-      by : (b : Bool) → contains (value_order.ghosts).cmp set.others v ≡ b → (c : Bool) → list_any (same_value v) values ≡ c →
-          contains (value_order.ghosts).cmp set.others v ≡ list_any (same_value v) values
-      by true is c alike = is ∙ sym (has.others v is)
-      by false is false alike = is ∙ sym alike
-      by false is true alike = absurd (
-          let kept = has.all v alike in
-          let other : kept_as (found set v) (contains (value_order.ghosts).cmp set.others v) ≡ false =
-          ap (λ r. kept_as r (contains (value_order.ghosts).cmp set.others v)) e ∙ is in
-          let no : false ≡ true = sym other ∙ kept in
-          cc)
 
   -- put into its free place, the value is one of the set's
   module _ (new : ValueSet) (q : ℕ) (free : found set v ≡ Free q) (at : new.places.items ≡ slice_set set.places.items q v)
@@ -280,8 +252,8 @@ module _ (set : ValueSet) (values : List SwitchValue) (has : HasValues set value
     abbrev start : SwitchValue → ℕ
     start w = start_of set.bits set.mask (number_of w)
 
-    near : found_from set.places.items v (start v) 8 ≡ Free q
-    near = sym (found_near set v no) ∙ free
+    near : found_near set v ≡ Free q
+    near = sym (is_near set v no) ∙ free
 
     was : slice_get set.places.items q ≡ Some Default
     was = was_free set v q free
@@ -289,7 +261,7 @@ module _ (set : ValueSet) (values : List SwitchValue) (has : HasValues set value
     found_now : (w : SwitchValue) → is_default w ≡ false →
         found new w ≡ found_from (slice_set set.places.items q v) w (start w) 8
     found_now w is =
-        found_near new w is
+        is_near new w is
         ∙ (λ i. found_from (at i) w (start_of (bits i) (mask i) (number_of w)) 8)
 
     kept_now : (w : SwitchValue) → IsKept set w → IsKept new w
@@ -297,12 +269,12 @@ module _ (set : ValueSet) (values : List SwitchValue) (has : HasValues set value
       where
         by : (b : Bool) → is_default w ≡ b → IsKept new w
         by true is =
-            let one : found new w ≡ Nowhere = ap (λ b. if b then Nowhere else found_from new.places.items w (start_of new.bits new.mask (number_of w)) 8) is in
-            let two : found set w ≡ Nowhere = ap (λ b. if b then Nowhere else found_from set.places.items w (start_of set.bits set.mask (number_of w)) 8) is in
+            let one : found new w ≡ Nowhere = ap (λ b. if b then Nowhere else found_near new w) is in
+            let two : found set w ≡ Nowhere = ap (λ b. if b then Nowhere else found_near set w) is in
             (λ i. kept_as ((one ∙ sym two) i) (contains (value_order.ghosts).cmp (others i) w)) ∙ kept
         by false is =
             let r = found_from set.places.items w (start w) 8 in
-            let old = found_near set w is in
+            let old = is_near set w is in
             let ended = kept_ends r (contains (value_order.ghosts).cmp set.others w) (sym (ap (λ k. kept_as k (contains (value_order.ghosts).cmp set.others w)) old) ∙ kept) in
             let one : found new w ≡ r = found_now w is ∙ still set.places.items q v was w is (start w) 8 ended in
             (λ i. kept_as ((one ∙ sym old) i) (contains (value_order.ghosts).cmp (others i) w)) ∙ kept

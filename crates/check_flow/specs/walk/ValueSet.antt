@@ -33,9 +33,13 @@ abbrev pub found_from : List SwitchValue → SwitchValue → ℕ → ℕ → Fou
 found_from places v place zero = Nowhere
 found_from places v place (suc n) = found_at (slice_get places place) v place (found_from places v (suc place) n)
 
+-- near the place of a value
+abbrev pub found_near : ValueSet → SwitchValue → Found
+found_near set v = found_from set.places.items v (start_of set.bits set.mask (number_of v)) 8
+
+-- where a value is found; the default stands at no place
 abbrev pub found : ValueSet → SwitchValue → Found
-found set v =
-    if is_default v then Nowhere else found_from set.places.items v (start_of set.bits set.mask (number_of v)) 8
+found set v = if is_default v then Nowhere else found_near set v
 
 -- a value is one of others
 abbrev pub IsAmong : SwitchValue → List SwitchValue → Type 0
