@@ -18,7 +18,7 @@ use Rattle.naga_runs.specs.Visits.{VisitPlace}
 use Rattle.check_scope.specs.BodyTrees.{emitted_operands, operands_if}
 use Rattle.check_scope.specs.Context.{Context}
 use Rattle.check_scope.specs.ScopePoints.{Points, use_point, put_point, is_in_scope}
-use Rattle.check_flow.specs.Control.{within_emit, emitted_points, emit_points_from}
+use Rattle.check_flow.specs.Emit.{within_emit, emitted_points, emit_points_from}
 use Rattle.check_scope.specs.Results.{is_result}
 use Rattle.check_scope.specs.ExpressionTypes.{expression_at}
 use Rattle.check_scope.specs.walk.Findings.{AllHold}

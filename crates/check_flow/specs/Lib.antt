@@ -1,3 +1,4 @@
+pub mod Emit
 pub mod Control
 pub mod Switch
 pub mod Call

@@ -2,7 +2,7 @@
 
 ghost use Rattle.std.specs.Prelude.{◌≡◌, ◌<◌, ◌≤◌, ◌↔◌, false, IsTrue, OnOk, length, map};
 ghost use Rattle.std.specs.Option.{option_copied};
-ghost use Rattle.check_flow.specs.Control.{emit_points, emitted_points};
+ghost use Rattle.check_flow.specs.Emit.{emit_points, emitted_points};
 ghost use Rattle.check_scope.specs.Results.{is_result};
 ghost use Rattle.check_scope.specs.walk.Place.{place_at};
 ghost use Rattle.check_flow.specs.walk.Emitted.{handles_between};

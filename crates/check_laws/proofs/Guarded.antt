@@ -24,7 +24,8 @@ use Rattle.naga_runs.specs.Visits.{VisitPlace}
 use Rattle.check_scope.specs.BodyTrees.{body_of, emitted_operands}
 use Rattle.check_scope.specs.Context.{Context, pre_emitted}
 use Rattle.check_flow.specs.walk.SwitchParts.{cases_points}
-use Rattle.check_flow.specs.Control.{within_emit, emitted_points, emit_points_from, is_bool_scalar, declared_type, is_returned_as}
+use Rattle.check_flow.specs.Emit.{within_emit, emitted_points, emit_points_from}
+use Rattle.check_flow.specs.Control.{is_bool_scalar, declared_type, is_returned_as}
 use Rattle.check_flow.specs.Switch.{value_points, values_of}
 use Rattle.check_statement.specs.FunctionJudgement.{body_judgement}
 use Rattle.check_scope.specs.ScopePoints.{Points, use_point, put_point, may_use, is_in_scope}

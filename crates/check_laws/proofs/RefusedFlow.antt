@@ -14,7 +14,8 @@ use Rattle.naga_runs.specs.Handles.{Handles, with_handle}
 use Rattle.naga_runs.specs.Visits.{VisitPlace}
 use Rattle.naga_runs.specs.Witnesses.{HasUnknownUse}
 use Rattle.check_flow.specs.Call.{CallPoints, arguments_of, has_result, passed_points_from, all_passed_points, call_result_points, callee_points, call_points}
-use Rattle.check_flow.specs.Control.{within_emit, emitted_points, emit_points_from, condition_points}
+use Rattle.check_flow.specs.Emit.{within_emit, emitted_points, emit_points_from}
+use Rattle.check_flow.specs.Control.{condition_points}
 use Rattle.check_flow.specs.Switch.{value_points, values_of, repeated_fault, switch_points}
 use Rattle.check_flow.specs.walk.SwitchParts.{cases_points}
 use Rattle.check_flow.proofs.Emits.{within_more}

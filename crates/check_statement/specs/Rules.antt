@@ -17,7 +17,8 @@ use Rattle.check_statement.specs.Past.{Past, past_of}
 use Rattle.check_subgroups.specs.Barrier.{barrier_points}
 use Rattle.check_flow.specs.Call.{call_points}
 use Rattle.check_scope.specs.Context.{Context}
-use Rattle.check_flow.specs.Control.{emit_points, condition_points, return_points, break_points, continue_points}
+use Rattle.check_flow.specs.Emit.{emit_points}
+use Rattle.check_flow.specs.Control.{condition_points, return_points, break_points, continue_points}
 use Rattle.check_flow.specs.Switch.{switch_points}
 use Rattle.check_memory.specs.Cooperative.{cooperative_points}
 use Rattle.check_resources.specs.ImageAtomic.{image_atomic_points}

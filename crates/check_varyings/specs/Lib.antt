@@ -10,4 +10,5 @@ pub mod CodeVaryings
 pub mod DistinctVaryings
 pub use Rattle.check_varyings.specs.BuiltIns.{built_in_rule}
 pub use Rattle.check_varyings.specs.VaryingFaults.{VaryingFault, varying_fault_of}
-pub use Rattle.check_varyings.specs.Varyings.{points_from, parts_of, seen_in, seen_with, nothing_seen, without_built_ins, StartsEmpty, PointsAreByPosition, LeavesTheNext, SeesLocationsAlone}
+pub use Rattle.check_varyings.specs.Varyings.{points_from, parts_of, seen_in, seen_with, nothing_seen, without_built_ins}
+pub use Rattle.check_varyings.specs.Varyings.{StartsEmpty, PointsAreByPosition, LeavesTheNext, SeesLocationsAlone}

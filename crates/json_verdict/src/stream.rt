@@ -52,7 +52,8 @@ impl Stream {
 
     /// Replies to the line.
     fn end_line<W: Write>(&mut self, alloc: Global, writer: &mut W) -> io::Result<()>
-        ensures { OnOk result ((input : List ℕ) (start : Option (List ℕ)) → HasTaken self.old input start (W.contents writer.old) →
+        ensures { OnOk result ((input : List ℕ) (start : Option (List ℕ)) →
+            HasTaken self.old input start (W.contents writer.old) →
             HasTaken self.new (input ++ 10 ∷ []) start (W.contents writer.new)) }
     {
         let status = reply_to(alloc, writer, &mut self.bytes, Form::Json)?;
@@ -82,7 +83,8 @@ impl Stream {
         writer: &mut W,
         bytes: &[u8],
     ) -> io::Result<()>
-        ensures { OnOk result ((input : List ℕ) (start : Option (List ℕ)) → HasTaken self.old input start (W.contents writer.old) →
+        ensures { OnOk result ((input : List ℕ) (start : Option (List ℕ)) →
+            HasTaken self.old input start (W.contents writer.old) →
             HasTaken self.new (input ++ bytes.now) start (W.contents writer.new)) }
     {
         let mut rest = bytes;

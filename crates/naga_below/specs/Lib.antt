@@ -25,5 +25,6 @@ pub use Rattle.ir_types.specs.TypeTests.{is_same_type}
 pub use Rattle.ir_types.specs.Types.{ResolutionFits, bool_scalar}
 pub use Rattle.ir_module.specs.Operands.{operands_of, listed_operands}
 pub use Rattle.ir_leaves.specs.declared.stage.ShaderStage.TheVariants.{Vertex}
-pub use Rattle.ir_types.specs.TypeTests.{SameIsDecided, EquivalentIsDecided, ExchangeStructIsDecided, ScalarIsDecided, ScalarMemberIsDecided}
+pub use Rattle.ir_types.specs.TypeTests.{SameIsDecided, EquivalentIsDecided, ExchangeStructIsDecided, ScalarIsDecided}
+pub use Rattle.ir_types.specs.TypeTests.{ScalarMemberIsDecided}
 pub use Rattle.ir_types.specs.Types.{NameEachOther, access_of}

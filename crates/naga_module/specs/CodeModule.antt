@@ -30,7 +30,8 @@ module _ (below : Meaning) (settings : Settings) (types : List TypeInfo) (m : Mo
   -- the same of entry points
   abbrev pub EntriesLead : TraceState → ModuleInfo → List EntryPoint → TraceState → ModuleInfo → List EntryPoint → Type 0
   EntriesLead trace infos ps left more rest =
-      (r : ModuleAnswer) → EntriesAnswer below settings types m left more rest r → EntriesAnswer below settings types m trace infos ps r
+      (r : ModuleAnswer) → EntriesAnswer below settings types m left more rest r →
+      EntriesAnswer below settings types m trace infos ps r
 
   abbrev pub EntriesStop : TraceState → ModuleInfo → List EntryPoint → ModuleFault → Type 0
   EntriesStop trace infos ps = IsRightFault (EntriesAnswer below settings types m trace infos ps)

@@ -35,7 +35,8 @@ abbrev pub Tested : Type 0 → (ModuleAnswer → Type 0) → ModuleAnswer → Ty
 Tested Holds Next r = (Holds × Next r) ⊎ ((Holds → ⊥) × (r ≡ Err fault.NotFit))
 
 -- a judgement: its fault, as this makes it one of the module; else the next step decides, with what was found
-abbrev pub AnswersStep : {A E : Type 0} → Result A E → (E → ModuleFault → Type 0) → (A → ModuleAnswer → Type 0) → ModuleAnswer → Type 0
+abbrev pub AnswersStep : {A E : Type 0} → Result A E → (E → ModuleFault → Type 0) → (A → ModuleAnswer → Type 0) →
+    ModuleAnswer → Type 0
 AnswersStep (Ok x) Makes Next r = Next x r
 AnswersStep (Err e) Makes Next (Ok infos) = ⊥
 AnswersStep (Err e) Makes Next (Err told) = Makes e told

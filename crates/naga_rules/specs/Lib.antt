@@ -6,5 +6,6 @@ pub use Rattle.check_variables.specs.Globals.{global_points}
 pub use Rattle.check_variables.specs.Locals.{local_points}
 pub use Rattle.check_varyings.specs.BuiltIns.{built_in_rule}
 pub use Rattle.check_varyings.specs.VaryingFaults.{VaryingFault, varying_fault_of}
-pub use Rattle.check_varyings.specs.Varyings.{points_from, parts_of, seen_in, seen_with, nothing_seen, without_built_ins, StartsEmpty, PointsAreByPosition, LeavesTheNext, SeesLocationsAlone}
+pub use Rattle.check_varyings.specs.Varyings.{points_from, parts_of, seen_in, seen_with, nothing_seen, without_built_ins}
+pub use Rattle.check_varyings.specs.Varyings.{StartsEmpty, PointsAreByPosition, LeavesTheNext, SeesLocationsAlone}
 pub use Rattle.ir_facts.specs.Fits.{MemberCountFits}

@@ -1,4 +1,4 @@
-use Rattle.check_flow.specs.Control.{emitted_points}
+use Rattle.check_flow.specs.Emit.{emitted_points}
 use Rattle.check_scope.specs.walk.Place.{place_at}
 use Rattle.check_scope.specs.walk.SeenContext.{context_of}
 use Rattle.check_scope.specs.walk.Table.{known}

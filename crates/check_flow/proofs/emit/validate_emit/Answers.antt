@@ -1,7 +1,7 @@
 use Rattle.std.proofs.Common.{rules, ◌≡◌, None, arith, subst, sym, ◌∙◌}
 use Rattle.std.specs.Prelude.{◌≢◌}
 use Rattle.ir_arena.specs.Points.{first_fault}
-use Rattle.check_flow.specs.Control.{emit_points}
+use Rattle.check_flow.specs.Emit.{emit_points}
 use Rattle.ir_facts.specs.Answers.{IsFirstFault}
 use Rattle.check_scope.specs.walk.Place.{place_at}
 use Rattle.check_scope.specs.walk.SeenContext.{context_of}

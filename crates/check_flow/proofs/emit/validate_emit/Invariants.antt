@@ -1,7 +1,7 @@
 use Rattle.std.proofs.Common.{◌≡◌, ◌≤◌, ◌-◌}
 use Rattle.ir_arena.specs.Points.{first_fault}
 use Rattle.check_scope.specs.walk.Place.{place_at}
-use Rattle.check_flow.specs.Control.{emit_points, emit_points_from}
+use Rattle.check_flow.specs.Emit.{emit_points, emit_points_from}
 use Rattle.check_flow.specs.walk.Emitted.{handles_between}
 use Rattle.check_scope.specs.walk.SeenContext.{context_of}
 use Rattle.check_scope.specs.BodyTrees.{emitted_operands}
