@@ -68,7 +68,7 @@ def faults():
 
 
 def order():
-    """Each entry point is wrong in two neighbouring steps, and the earlier answers."""
+    """Each entry point is wrong in two neighboring steps, and the earlier answers."""
     early = AT_VERTEX.but(tests_depth=True)
     no_payload = AT_TASK.but(payload=None)
     no_position = at("Vertex")

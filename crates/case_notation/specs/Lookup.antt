@@ -50,14 +50,14 @@ begins_signed [] = false
 begins_signed (d ∷ []) = begins_number (d ∷ [])
 begins_signed (d ∷ e ∷ ds) = (d == 45 && (nat_le 49 e && nat_le e 57)) || begins_number (d ∷ e ∷ ds)
 
--- which flags are on behind an option, where these are on before it
+-- which flags are on after an option, where these are on before it
 unfoldable pub take_option : (expressions blocks : Bool) → List ℕ → Option (Bool × Bool)
 take_option expressions blocks w =
     if bytes_eq w (codes "-expressions") then (if expressions then Some (false, blocks) else None)
     else if bytes_eq w (codes "-blocks") then (if blocks then Some (expressions, false) else None)
     else None
 
--- The flags that the words up to `:` leave on, where these are on before them, and the words behind it.
+-- The flags that the words up to `:` leave on, where these are on before them, and the words after it.
 unfoldable pub options_of : (expressions blocks : Bool) → List (List ℕ) → Option (Bool × Bool × List (List ℕ))
 options_of expressions blocks [] = None
 options_of expressions blocks (w ∷ ws) =

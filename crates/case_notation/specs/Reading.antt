@@ -152,7 +152,7 @@ take_name opened list naming.Selector h = wanting opened list (wants.Open (brace
 take_name opened list naming.Pointer h = wanting opened list (wants.Name (naming.Stored h))
 take_name opened list n h = put_named opened list n h
 
--- what is wanted behind a brace
+-- what is wanted after a brace
 abbrev pub behind_brace : Brace → Wants
 behind_brace (brace.Cases h) = wants.CaseValue
 behind_brace b = wants.Statement tail.Nothing

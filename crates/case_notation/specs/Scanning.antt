@@ -12,7 +12,7 @@ use Rattle.case_notation.specs.Words.{is_space, is_visible, IsPrintable, words_o
 abbrev pub is_other : ℕ → Bool
 is_other b = not (is_space b)
 
--- a text is white space, a word, and what stands behind it
+-- a text is white space, a word, and what stands after it
 pub record FirstWord (text word after : List ℕ) : Type 0 where
   pub first : words_of text ≡ word ∷ words_of after
   pub printable : AllPass is_visible word → IsPrintable after → IsPrintable text
@@ -23,7 +23,7 @@ pub record NoWord (text : List ℕ) : Type 0 where
   pub none : words_of text ≡ []
   pub printable : IsPrintable text
 
--- a text is what stands before its first white space, and the text behind that, if there is any
+-- a text is what stands before its first white space, and the text after that, if there is any
 pub record CutAtSpace (text word after : List ℕ) : Type 0 where
   pub long : length word ≡ prefix_len is_other text
   pub front : word ≡ take (prefix_len is_other text) text

@@ -9,7 +9,7 @@ use Rattle.case_notation.specs.declared.token.Token.{Token}
 use Rattle.case_notation.specs.declared.token.Token.TheVariants as token
 use Rattle.case_notation.specs.Bench.{names_of, has_callee}
 
--- The text of a case value: a 32-bit number as std prints it, with an `i` behind it where it is signed. So there are
+-- The text of a case value: a 32-bit number as std prints it, with an `i` after it where it is signed. So there are
 -- no leading zeros, no `+` and no `-0`.
 abbrev pub IsValueText : SwitchValue → List ℕ → Type 0
 IsValueText (I32 z) text = FitsSigned w32 z × (text ≡ signed_decimal z ++ codes "i")

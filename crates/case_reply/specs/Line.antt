@@ -84,7 +84,7 @@ reply_status Memory = 3
 abbrev pub IsDue : List ℕ → Reply → Type 0
 IsDue input reply = (c : Case) × Reads input c × IsCaseLine c (reply_line reply) (reply_status reply)
 
--- the reply is the one that is due to the input, or want of memory
+-- the reply is the one that is due to the input, or out of memory
 unfoldable pub RepliesToCase : List ℕ → Reply → Type 0
 RepliesToCase input (Accepted stages) = IsDue input (Accepted stages)
 RepliesToCase input (Fault fault) = IsDue input (Fault fault)

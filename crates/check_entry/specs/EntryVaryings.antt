@@ -126,7 +126,7 @@ module _ (settings : Settings) (types : List IrType) (infos : List TypeInfo) (ep
       ++ within fault_of (returned_points types ep.stage
       (has_built_in (Position false) (result_parts types infos ep.function.result)) ep.function.result)
 
-  -- an output of a mesh, behind these parts of its group: a struct, whose members may be put out
+  -- an output of a mesh, after these parts of its group: a struct, whose members may be put out
   abbrev pub output_points : MeshOutputType → List Placed → ℕ → List (Point EntryFault)
   output_points which earlier ty =
       (it_is is_struct (inner_at types ty), Other fault.InvalidMeshOutputType)
@@ -138,7 +138,7 @@ module _ (settings : Settings) (types : List IrType) (infos : List TypeInfo) (ep
       output_points VertexOutput [] ty
       ++ ((has_built_in (Position false) (parts_of types infos ty None), Other fault.MissingVertexOutputPosition) ∷ [])
 
-  -- that of each primitive, which has one built-in of indices, behind these parts
+  -- that of each primitive, which has one built-in of indices, after these parts
   abbrev pub primitive_points : List Placed → ℕ → List (Point EntryFault)
   primitive_points earlier ty =
       output_points PrimitiveOutput earlier ty

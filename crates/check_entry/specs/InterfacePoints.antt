@@ -1,4 +1,4 @@
--- What an entry point puts in and out: its points behind the function.
+-- What an entry point puts in and out: its points after the function.
 use Rattle.std.specs.Prelude.{◌≡◌, List, ◌++◌, All, IsSome}
 use Rattle.ir_arena.specs.Points.{Point, within}
 use Rattle.ir_module.specs.declared.module.EntryPoint.{EntryPoint}
@@ -20,7 +20,7 @@ HasPayloadSizes below program =
     All (λ g. g.space ≡ TaskPayload → IsSome (below.size_of program g.ty)) program.global_variables
 
 module _ (below : Meaning) (settings : Settings) (infos : List TypeInfo) (program : Module) (ep : EntryPoint) where
-  -- the steps behind the payload, where this is known of the function and of what the entry point itself does
+  -- the steps after the payload, where this is known of the function and of what the entry point itself does
   abbrev pub used_points : FunctionInfo → List (Point EntryFault)
   used_points info =
       within fault_of (stage_points ep.stage info.available_stages)
@@ -29,7 +29,7 @@ module _ (below : Meaning) (settings : Settings) (infos : List TypeInfo) (progra
       ++ (within fault_of (globals_points below settings.flags program ep info.global_uses)
       ++ mesh_points below settings infos program ep ep.mesh_info)))
 
-  -- the steps behind the function, of which this is known: the payload; its stage; its arguments; its result; the globals that
+  -- the steps after the function, of which this is known: the payload; its stage; its arguments; its result; the globals that
   -- are used; the mesh
   abbrev pub interface_points : FunctionInfo → List (Point EntryFault)
   interface_points info =

@@ -67,7 +67,7 @@ size_points at size =
     then (list_all is_group_size size, fault.OutOfRangeWorkgroupSize) ∷ []
     else (list_all is_zero size, fault.UnexpectedWorkgroupSize) ∷ []
 
--- nothing is said of a mesh
+-- no claim is made about a mesh
 abbrev pub no_mesh_info_points : Option MeshStageInfo → EntryPoints
 no_mesh_info_points info = (is_none info, fault.UnexpectedMeshShaderAttributes) ∷ []
 

@@ -45,7 +45,7 @@ immediate_points uses globals = (nat_le (used_immediates uses globals (length gl
 
 -- Bindings.
 
--- the binding of a global, if it has one: where bindings are looked at, no earlier global that is used has it
+-- the binding of a global, if it has one: where bindings are checked, no earlier global that is used has it
 abbrev pub binding_points : ValidationFlags → List GlobalUse → List GlobalVariable → ℕ → Option ResourceBinding → EntryPoints
 binding_points flags uses globals h None = []
 binding_points flags uses globals h (Some b) =

@@ -1,4 +1,4 @@
-//! What an entry point puts in and out, behind its function: naga 30.0.1's `validate_entry_point` from the stage on.
+//! What an entry point puts in and out, after its function: naga 30.0.1's `validate_entry_point` from the stage on.
 
 ghost use Rattle.ir_facts.specs.Answers.{Answers, FirstOf, read_by};
 ghost use Rattle.ir_facts.specs.Fits.{FitsTypes, FitsEntry};

@@ -11,8 +11,10 @@ use std::alloc::AllocError;
 /// What is wrong with a module: the first fault in the order of its judgement.
 #[derive(PartialEq, Debug, Drop)]
 pub enum ModuleFault {
-    /// What is named doesn't exist or comes too late, lists that belong together differ in length, or the size of a
-    /// task payload isn't known.
+    /// What is named doesn't exist or comes too late; a range is out of order, or ends after the last expression; lists
+    /// that belong together differ in length, or are longer than 32 bits count; a global in Handle is a binding array of
+    /// external images or ray queries; a global lies in Function where there is an entry point; or the size of a task payload
+    /// isn't known. `find_misfit` says which.
     NotFit,
     /// A global variable has this fault.
     Global(Handle<tag::GlobalVariable>, GlobalVariableError),

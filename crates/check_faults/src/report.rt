@@ -43,7 +43,7 @@ pub fn write_refusal<E: Explain, W: fmt::Write>(
     }
 }
 
-/// Writes a fault as [`write_refusal`] does, with these spans.
+/// Writes a fault as [`write_refusal`] does, with these spans. An Err is that of the writer.
 pub fn write_fault<E: Explain, W: fmt::Write>(
     writer: &mut W,
     subject: Subject,
@@ -56,7 +56,8 @@ pub fn write_fault<E: Explain, W: fmt::Write>(
     fault.explain(writer)
 }
 
-/// Writes why a module was refused, as [`write_refusal`] does. `NotFit` and `Memory` have no subject and no span.
+/// Writes why a module was refused, as [`write_refusal`] does. `NotFit` and `Memory` have no subject and no span. An Err is that
+/// of the writer.
 pub fn write_module_fault<W: fmt::Write>(writer: &mut W, fault: &ModuleFault) -> fmt::Result {
     match fault {
         ModuleFault::NotFit => {
@@ -144,7 +145,8 @@ pub fn write_module_fault_lines<W: fmt::Write>(
 }
 
 /// The sentence of `NotFit`.
-const NOT_FIT: &str = "a handle or a range is out of bounds or out of order, or a fact is missing";
+const NOT_FIT: &str =
+    "a handle or a range is out of bounds or out of order, a fact is missing, or a global is where none may be";
 
 /// The sentence of `NotInScope` where a Continue is why.
 const SKIPPED: &str =

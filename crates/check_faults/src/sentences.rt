@@ -18,7 +18,8 @@ pub trait Explain: fmt::Debug {
     }
 }
 
-/// Writes a colon and the sentence of an inner error. It is for an outer error, which has written its own sentence.
+/// Writes a colon and the sentence of an inner error. It is for an outer error, which has written its own sentence. An Err is
+/// that of the writer.
 pub fn explain_inside<E: Explain, W: fmt::Write>(error: &E, writer: &mut W) -> fmt::Result {
     writer.write_str(": ")?;
     error.explain(writer)

@@ -58,7 +58,7 @@ module _ (below : Meaning) (settings : Settings) (types : List TypeInfo) (m : Mo
   masks_of earlier fun info = expression_masks below (context_with below settings types no_traces m earlier fun false info)
 
   -- a function keeps to stages: they are stages of each statement of its body at any depth, where a Call has those that are
-  -- recorded of its callee; and, where expressions are looked at, of each of its expressions, of which none is without a mask
+  -- recorded of its callee; and, where expressions are checked, of each of its expressions, of which none is without a mask
   pub record KeepsTo (infos earlier : ModuleInfo) (fun : Function) (stages : ShaderStages) : Type 0 where
     pub statements : AllByRecursion (AreOfStatement settings.subgroup_stages infos stages) (nodes_of (body_of fun))
     pub expressions : (info : FunctionInfo) →
@@ -74,7 +74,7 @@ module _ (below : Meaning) (settings : Settings) (types : List TypeInfo) (m : Mo
     pub reached : (f : ℕ) (callee : Function) → Reaches m (body_of fun) f → slice_get m.functions f ≡ Some callee →
         KeepsTo infos (infos_below f infos) callee stages
 
--- Where bodies are looked at, a function that the judgement accepts with vetted infos, and whose calls name only functions that
+-- Where bodies are checked, a function that the judgement accepts with vetted infos, and whose calls name only functions that
 -- have infos, keeps to each of its stages through all chains of calls.
 abbrev pub ChainsAreKept : Type 0
 ChainsAreKept =
@@ -90,7 +90,7 @@ NoneIsVetted =
     (below : Meaning) (settings : Settings) (types : List TypeInfo) (m : Module) (infos : ModuleInfo) →
     infos.functions ≡ [] → AreVetted below settings types m infos
 
--- Vetted infos stay so behind the info of the next function of the module, where it fits and the judgement made the info.
+-- Vetted infos stay so after the info of the next function of the module, where it fits and the judgement made the info.
 abbrev pub OneMoreIsVetted : Type 0
 OneMoreIsVetted =
     (below : Meaning) (settings : Settings) (types : List TypeInfo) (trace : TraceState) (m : Module) (infos : ModuleInfo) →

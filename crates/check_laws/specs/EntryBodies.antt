@@ -1,4 +1,4 @@
--- What is known of the body of each entry point that the judgement accepts, where bodies are looked at: as of each function.
+-- What is known of the body of each entry point that the judgement accepts, where bodies are checked: as of each function.
 use Rattle.std.specs.Prelude.{◌≡◌, true, List, Ok}
 use Rattle.ir_module.specs.declared.module.EntryPoint.{EntryPoint}
 use Rattle.ir_module.specs.declared.module.Module.{Module}
@@ -14,7 +14,7 @@ use Rattle.check_scope.specs.BodyTrees.{body_of}
 use Rattle.check_scope.specs.declared.trace.TraceState.{TraceState}
 use Rattle.check_statement.specs.FunctionJudgement.{FunctionOutcome}
 
--- something holds of every entry point that the judgement accepts where bodies are looked at, and of what is known of it
+-- something holds of every entry point that the judgement accepts where bodies are checked, and of what is known of it
 abbrev pub OfAcceptedBody : (Settings → Module → ModuleInfo → EntryPoint → FunctionOutcome → Type 0) → Type 0
 OfAcceptedBody Holds =
     (below : Meaning) (settings : Settings) (types : List TypeInfo) (trace : TraceState) (m : Module) (infos : ModuleInfo) →
@@ -22,7 +22,7 @@ OfAcceptedBody Holds =
     entry_judgement below settings types trace m infos ep ≡ Ok outcome → checks_blocks settings.flags ≡ true →
     Holds settings m infos ep outcome
 
--- where expressions are looked at too, each of its results is filled once
+-- where expressions are checked too, each of its results is filled once
 abbrev pub AcceptedEntryFillsOnce : Type 0
 AcceptedEntryFillsOnce =
     OfAcceptedBody (λ settings m infos ep outcome. checks_expressions settings.flags ≡ true → ResultsAreFilledOnce ep.function)

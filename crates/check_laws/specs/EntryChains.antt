@@ -17,7 +17,7 @@ use Rattle.ir_facts.specs.WhatIsChecked.{checks_blocks}
 use Rattle.check_scope.specs.declared.trace.TraceState.{TraceState}
 use Rattle.std.specs.Prelude.{length}
 
--- something holds of every entry point that the judgement accepts where bodies are looked at
+-- something holds of every entry point that the judgement accepts where bodies are checked
 abbrev pub OfAcceptedLooked : (Meaning → Settings → List TypeInfo → Module → ModuleInfo → EntryPoint → Type 0) → Type 0
 OfAcceptedLooked Holds =
     (below : Meaning) (settings : Settings) (types : List TypeInfo) (trace : TraceState) (m : Module) (infos : ModuleInfo) →

@@ -118,13 +118,13 @@ OfAcceptedEntry Holds =
     (earlier : ModuleInfo) (ep : EntryPoint) (outcome : FunctionOutcome) →
     entry_judgement below settings infos trace program earlier ep ≡ Ok outcome → Holds settings infos program ep outcome
 
--- Where bindings are looked at, the globals that are used and bound are bound at distinct places.
+-- Where bindings are checked, the globals that are used and bound are bound at distinct places.
 abbrev pub AcceptedBindingsAreDistinct : Type 0
 AcceptedBindingsAreDistinct =
     OfAcceptedEntry (λ settings infos program ep outcome. checks_bindings settings.flags ≡ true →
     BindingsAreDistinct program.global_variables outcome.info.global_uses)
 
--- Where bindings are looked at, the locations of each group are distinct.
+-- Where bindings are checked, the locations of each group are distinct.
 abbrev pub AcceptedLocationsAreDistinct : Type 0
 AcceptedLocationsAreDistinct =
     OfAcceptedEntry (λ settings infos program ep outcome. checks_bindings settings.flags ≡ true →

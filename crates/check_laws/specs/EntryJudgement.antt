@@ -35,7 +35,7 @@ module _ (below : Meaning) (settings : Settings) (infos : List TypeInfo) (progra
       answer (first_fault (interface_points below settings infos program ep outcome.info)) (entry_outcome outcome)
 
 -- The judgement of an entry point of a module, with the infos of the functions before it, where these are the infos of the
--- module's types, and ray traces left this: the steps up to its function, the function, the steps behind it. It is the first
+-- module's types, and ray traces left this: the steps up to its function, the function, the steps after it. It is the first
 -- fault; else the function's info, with what the entry point itself does with globals and whether it puts out two sources of a
 -- blend, and what ray traces leave.
 unfoldable pub entry_judgement : Meaning → Settings → List TypeInfo → TraceState → Module → ModuleInfo → EntryPoint →

@@ -1,4 +1,4 @@
--- What is known of each function that the judgement accepts, where bodies are looked at.
+-- What is known of each function that the judgement accepts, where bodies are checked.
 use Rattle.std.specs.List.{AllByRecursion}
 use Rattle.std.specs.Prelude.{◌≡◌, ◌↔◌, Bool, true, List, Ok, length}
 use Rattle.ir_module.specs.declared.functions.Function.{Function}
@@ -19,7 +19,7 @@ use Rattle.check_statement.specs.FunctionJudgement.{FunctionOutcome, context_wit
 use Rattle.check_laws.specs.BodyShapes.{HasNoReturnInContinuing, HasWholeSwitches}
 use Rattle.check_scope.specs.declared.trace.TraceState.{TraceState}
 
--- something holds of every function that the judgement accepts where bodies are looked at, of its module, and of what is
+-- something holds of every function that the judgement accepts where bodies are checked, of its module, and of what is
 -- known of it
 abbrev pub OfAcceptedIn : (Module → Settings → ModuleInfo → Function → FunctionOutcome → Type 0) → Type 0
 OfAcceptedIn Holds =
@@ -37,7 +37,7 @@ OfAccepted Holds = OfAcceptedIn (λ program. Holds)
 abbrev pub AcceptedIsSound : Type 0
 AcceptedIsSound = OfAccepted (λ settings earlier fun outcome. RunsAreSure (pre_emitted_of fun) (body_of fun))
 
--- where expressions are looked at too, each of its results is filled once
+-- where expressions are checked too, each of its results is filled once
 abbrev pub AcceptedFillsOnce : Type 0
 AcceptedFillsOnce =
     OfAccepted (λ settings earlier fun outcome. checks_expressions settings.flags ≡ true → ResultsAreFilledOnce fun)
@@ -68,7 +68,7 @@ AcceptedKeepsInfo =
     lower_step below settings infos trace program earlier fun entry_point ≡ Ok info →
     outcome.info ≡ with_stages info outcome.info.available_stages
 
--- Where expressions are looked at, there is one mask for each expression: the lower layer refuses none.
+-- Where expressions are checked, there is one mask for each expression: the lower layer refuses none.
 abbrev pub AcceptedHasEveryMask : Type 0
 AcceptedHasEveryMask =
     (below : Meaning) (settings : Settings) (infos : List TypeInfo) (trace : TraceState) (program : Module)

@@ -45,7 +45,7 @@ abbrev pub is_loaded_as : Context → ℕ → Option ℕ → Bool
 is_loaded_as context pointer None = false
 is_loaded_as context pointer (Some ty) = points_to context pointer ty
 
--- WorkGroupUniformLoad: its pointer, into the work group; its result is put, and then looked at
+-- WorkGroupUniformLoad: its pointer, into the work group; its result is put, and then checked
 abbrev pub load_points : Context → VisitPlace → ℕ → ℕ → Points
 load_points context place pointer r =
     use_point place pointer

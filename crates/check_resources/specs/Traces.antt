@@ -68,7 +68,7 @@ is_trace _ = false
 abbrev pub any_trace : List Visit → Bool
 any_trace visits = list_any (λ v. is_trace v.node) visits
 
--- how vertices are returned behind ray traces: where the last one that lacks the flag stands, if there is one; else, if
+-- how vertices are returned after ray traces: where the last one that lacks the flag stands, if there is one; else, if
 -- there was a ray and none before, each has it; else as before
 abbrev pub vertex_return_by : TraceRayVertexReturnState → Option Span → Bool → TraceRayVertexReturnState
 vertex_return_by before (Some span) any = NoVertexReturn span
@@ -78,7 +78,7 @@ vertex_return_by before None any = before
 abbrev pub vertex_return_after : TraceState → Context → List Visit → TraceRayVertexReturnState
 vertex_return_after before context visits = vertex_return_by before.vertex_return (last_without context visits) (any_trace visits)
 
--- what ray traces leave behind visits of a body that began with this state
+-- what ray traces leave after visits of a body that began with this state
 abbrev pub trace_after : TraceState → Context → List Visit → TraceState
 trace_after before context visits =
     record {

@@ -133,7 +133,7 @@ filled_before earlier = λ r. list_any (λ v. fills r v.node) earlier
 abbrev pub is_unfilled : Context → Handles → ℕ → Bool
 is_unfilled context filled r = is_to_fill (expression_at context r) && not (filled r)
 
--- a result is fresh where expressions are looked at and nothing filled it
+-- a result is fresh where expressions are checked and nothing filled it
 abbrev pub is_fresh : Context → Handles → ℕ → Bool
 is_fresh context filled r = checks_expressions context.settings.flags && is_unfilled context filled r
 
@@ -143,7 +143,7 @@ filled_points_from context filled first zero = []
 filled_points_from context filled first (suc n) =
     (not (is_unfilled context filled first), UnvisitedExpression first) ∷ filled_points_from context filled (suc first) n
 
--- behind a body, where expressions are looked at: each result of the function is filled
+-- after a body, where expressions are checked: each result of the function is filled
 abbrev pub filled_points : Context → Handles → Points
 filled_points context filled =
     if checks_expressions context.settings.flags

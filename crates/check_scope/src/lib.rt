@@ -1,5 +1,6 @@
 //! The table of expressions in scope and of filled results, and what else every check list of a body reads.
-//! Part of the validator; no promise to users.
+//! Users import `TraceState` and `TraceRayVertexReturnState` from `naga_valid`; all else is part of the validator, with no
+//! promise to users.
 #![tactic(auto)]
 
 pub mod context;

@@ -32,7 +32,7 @@ module _ (below : Meaning) (context : Context) where
   stages_from stages h zero = Ok stages
   stages_from stages h (suc n) = and_then (mask_at stages h) (λ mask. stages_from (meet stages mask) (suc h) n)
 
-  -- where expressions are looked at, the stages that all of them leave; elsewhere those of the info
+  -- where expressions are checked, the stages that all of them leave; elsewhere those of the info
   abbrev pub expressions_step : Result ShaderStages FunctionError
   expressions_step =
       if checks_expressions context.settings.flags
@@ -48,7 +48,7 @@ module _ (below : Meaning) (context : Context) where
   masks_from stages h zero = []
   masks_from stages h (suc n) = mask_and (mask_at stages h) (λ mask. masks_from (meet stages mask) (suc h) n)
 
-  -- those of all expressions, where they are looked at
+  -- those of all expressions, where they are checked
   abbrev pub expression_masks : List ShaderStages
   expression_masks =
       if checks_expressions context.settings.flags

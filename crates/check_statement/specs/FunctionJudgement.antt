@@ -27,11 +27,11 @@ use Rattle.check_scope.specs.declared.trace.TraceState.{TraceState}
 unfoldable pub body_judgement : Context → Result (List Visit) FunctionError
 body_judgement context = judgement (body_rules context) [] (pre_emitted context) (body_of context.fun)
 
--- the step of the body: where bodies are looked at its judgement; elsewhere nothing is visited
+-- the step of the body: where bodies are checked its judgement; elsewhere nothing is visited
 abbrev pub body_step : Context → Result (List Visit) FunctionError
 body_step context = if checks_blocks context.settings.flags then body_judgement context else Ok []
 
--- where bodies and expressions are looked at, each result is filled behind the body
+-- where bodies and expressions are checked, each result is filled after the body
 abbrev pub unfilled_points : Context → List Visit → Points
 unfilled_points context visits = if checks_blocks context.settings.flags then filled_points context (filled_before visits) else []
 
@@ -48,7 +48,7 @@ outcome_left context visits =
       trace = trace_after context.trace context visits;
     }
 
--- the steps behind the lower layer's answer: the body, and then its results
+-- the steps after the lower layer's answer: the body, and then its results
 abbrev pub judged_with : Context → Result FunctionOutcome FunctionError
 judged_with context =
     and_then (body_step context) (λ visits. answer (first_fault (unfilled_points context visits)) (outcome_left context visits))
@@ -83,7 +83,7 @@ module _ (below : Meaning) (settings : Settings) (infos : List TypeInfo) (trace 
   lower_step = below.function_info fun program earlier settings.flags settings.capabilities
 
   -- The judgement of a function, step by step: what the lower layer answers of it; its local variables, arguments and
-  -- result; where expressions are looked at each of them; where bodies are looked at the body; and with both that each
+  -- result; where expressions are checked each of them; where bodies are checked the body; and with both that each
   -- result is filled. It is the first fault; else the info, with the stages that expressions and statements leave, and what
   -- ray traces leave.
   unfoldable pub function_judgement : Result FunctionOutcome FunctionError

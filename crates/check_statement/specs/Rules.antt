@@ -1,4 +1,4 @@
--- The rules of a body: the check list of each visit, asked with the visits before it, and the stages that are left.
+-- The rules of a body: the check list of each visit, given the visits before it, and the stages that are left.
 use Rattle.std.specs.Prelude.{ℕ, List, [], ◌∷◌, Option, None, Some, slice_get}
 use Rattle.ir_flags.specs.Bits as bit
 use Rattle.ir_statements.specs.Tree.{Stmt, Leaf, Block, Branch, Switch, Loop, Break, Continue, Return, Kill}
@@ -33,7 +33,7 @@ use Rattle.check_subgroups.specs.Subgroup.{ballot_points}
 use Rattle.check_subgroups.specs.SubgroupCollective.{collective_points}
 use Rattle.check_subgroups.specs.SubgroupGather.{gather_points}
 
--- the check list of a statement that is neither a jump nor holds others, behind what the visits before it did
+-- the check list of a statement that is neither a jump nor holds others, after what the visits before it did
 abbrev pub leaf_points : Context → Past → VisitPlace → Statement → Points
 leaf_points context past place (ir.Emit range) = emit_points context place range.start range.end
 leaf_points context past place (ir.Call f arguments result) =
@@ -83,7 +83,7 @@ points_at context past place NoNode = []
 points_at context past place (StatementNode x) = statement_points context past place x
 points_at context past place (BreakIfNode h) = condition_points context place h
 
--- each visit has its check list, asked with what the visits before it did
+-- each visit has its check list, given what the visits before it did
 abbrev pub body_rules : Context → Rules (List Visit) FunctionError
 body_rules context =
     by_earlier (λ earlier visit. points_at context (past_of context earlier) visit.place visit.node)
@@ -140,7 +140,7 @@ stages_of subgroups earlier (Return value) = bit.ALL_STAGES
 abbrev pub stages_in : Context → Stmt → ShaderStages
 stages_in context x = stages_of context.settings.subgroup_stages context.earlier x
 
--- the stages that are left behind a statement. A break condition takes none
+-- the stages that are left after a statement. A break condition takes none
 abbrev pub stages_behind : Context → ShaderStages → BodyNode → ShaderStages
 stages_behind context stages (StatementNode x) = meet stages (stages_in context x)
 stages_behind context stages (BreakIfNode h) = stages

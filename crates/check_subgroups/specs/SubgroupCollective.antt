@@ -61,7 +61,7 @@ is_done_over over.Reduce o = true
 is_done_over over.InclusiveScan o = is_scanned o
 is_done_over over.ExclusiveScan o = is_scanned o
 
--- SubgroupCollectiveOperation: its argument, its operation, and its result, which is put, and then looked at
+-- SubgroupCollectiveOperation: its argument, its operation, and its result, which is put, and then checked
 abbrev pub collective_points : Context → VisitPlace → SubgroupOperation → CollectiveOperation → ℕ → ℕ → Points
 collective_points context place o part argument r =
     subgroups_point context.settings

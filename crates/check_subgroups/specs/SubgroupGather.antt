@@ -44,7 +44,7 @@ is_const _ = false
 abbrev pub is_const_at : Context → ℕ → Bool
 is_const_at context h = is_const (slice_get context.kinds h)
 
--- the index, if there is one: put by every run, a u32, and in a broadcast const. What is no u32 is told of the argument
+-- the index, if there is one: put by every run, a u32, and in a broadcast const. What is no u32 is reported of the argument
 abbrev pub index_points : Context → VisitPlace → Bool → ℕ → Option ℕ → Points
 index_points context place broadcasts argument None = []
 index_points context place broadcasts argument (Some index) =
@@ -59,7 +59,7 @@ is_gathered (Some (inner.Scalar s)) = is_number_kind s.kind
 is_gathered (Some (inner.Vector size s)) = is_number_kind s.kind
 is_gathered _ = false
 
--- SubgroupGather: its index, its argument, and its result, which is put, and then looked at
+-- SubgroupGather: its index, its argument, and its result, which is put, and then checked
 abbrev pub gather_points : Context → VisitPlace → GatherMode → ℕ → ℕ → Points
 gather_points context place mode argument r =
     subgroups_point context.settings

@@ -8,7 +8,7 @@ use Rattle.ir_types.specs.declared.type_info.TypeInfo.{TypeInfo}
 use Rattle.ir_facts.specs.WhatIsChecked.{checks_bindings}
 use Rattle.check_varyings.specs.Varyings.{Placed, go_same_way, is_at, is_built_in, placed_points}
 
--- where bindings are looked at, no part has the location of an earlier one
+-- where bindings are checked, no part has the location of an earlier one
 abbrev pub NoLocationTwice : List Placed → Type 0
 NoLocationTwice parts =
     (before behind : List Placed) (p : Placed) (location : ℕ) → parts ≡ before ++ p ∷ behind →

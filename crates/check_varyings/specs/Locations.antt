@@ -25,7 +25,7 @@ use Rattle.ir_errors.specs.declared.interface.VaryingError.{VaryingError}
 use Rattle.ir_errors.specs.declared.interface.VaryingError.TheVariants.{InvalidType, NotIOShareableType, InvalidInterpolationInStage, InvalidInterpolationSamplingCombination, InvalidInterpolationForInteger, MissingInterpolation, BindingCollision, UnsupportedCapability, BlendSrcNotOnStructMember, InvalidPerPrimitive, MissingPerPrimitive, PerVertexNotArrayOfThree, InvalidPerVertexSampling}
 use Rattle.check_varyings.specs.declared.varying.VaryingPlace.{VaryingPlace}
 
--- a location is free, or bindings aren't looked at
+-- a location is free, or bindings aren't checked
 abbrev pub may_take : VaryingPlace → Seen → ℕ → Bool
 may_take place seen location = not (checks_bindings place.flags) || not (seen.locations location)
 
@@ -99,7 +99,7 @@ combination_points (Some interpolation) (Some sampling) =
     (go_together interpolation sampling, InvalidInterpolationSamplingCombination interpolation sampling) ∷ []
 combination_points _ _ = []
 
--- outputs of a vertex or a mesh stage, and inputs of a fragment that go by vertex, have to be interpolated
+-- outputs of a vertex or a mesh stage, and inputs of a fragment that are by vertex, have to be interpolated
 abbrev pub is_interpolated : ShaderStage → Bool → Bool → Bool
 is_interpolated Vertex output per_primitive = output
 is_interpolated Mesh output per_primitive = output

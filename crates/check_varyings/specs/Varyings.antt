@@ -1,18 +1,18 @@
 -- What a stage takes in and puts out: items, their parts, the check list of each part, and the judgement of a group.
 --
 -- An *item* is an argument, a result or an output of a mesh: a type with or without a binding, at a place. Its *parts* are
--- what is looked at one by one (`parts_of`). A *group* is a list of items: the arguments of an entry point; its result; the
+-- what is checked one by one (`parts_of`). A *group* is a list of items: the arguments of an entry point; its result; the
 -- two outputs of a mesh together. `group_points` is its check list: the points of each item in order (`item_points`), and of
 -- each part of it in order (`part_points`). A part is judged against what was seen before it, `seen_at`, which is read off the
 -- earlier parts of the group by position: its locations, and those of its built-ins that go the same way.
 --
 -- `check_varying_item` keeps two sets, `seen_in state`, in place of the earlier parts. Its check list is `points_from`, of the
--- item's parts behind a state, and it leaves `seen_with` of them. `varyings_law` has the bridge, with which a caller that
+-- item's parts after a state, and it leaves `seen_with` of them. `varyings_law` has the bridge, with which a caller that
 -- starts from a new state goes from item to item:
---   start   a new state has seen what is seen at any place behind no part
---   points  behind a state that has seen what is seen at the item's place behind the earlier parts, `points_from` of the
+--   start   a new state has seen what is seen at any place after no part
+--   points  after a state that has seen what is seen at the item's place after the earlier parts, `points_from` of the
 --           item's parts is `item_points` of it
---   next    what it leaves is what is seen at that place behind the earlier parts and those of the item
+--   next    what it leaves is what is seen at that place after the earlier parts and those of the item
 --   other   where all earlier parts go another way, the same without the built-ins is seen (so a state whose built-ins are
 --           cleared goes from the vertex output of a mesh to its primitive output)
 -- In an accepted group no location and no built-in stands twice (`DistinctVaryings`).
@@ -191,7 +191,7 @@ is_same_bool false b = not b
 abbrev pub go_same_way : VaryingPlace → VaryingPlace → Bool
 go_same_way p q = is_same_bool p.output q.output && (mesh_output.ghosts).eq p.mesh_output q.mesh_output
 
--- what is seen at a place behind these parts of a group: their locations, and the built-ins of those that go the same way
+-- what is seen at a place after these parts of a group: their locations, and the built-ins of those that go the same way
 abbrev pub seen_at : VaryingPlace → List Placed → Seen
 seen_at place earlier =
     record {
@@ -208,17 +208,17 @@ module _ (types : List IrType) (infos : List TypeInfo) where
   abbrev pub placed_parts : Item → List Placed
   placed_parts item = placed item.place (parts_of types infos item.ty item.binding)
 
-  -- the points of parts behind others, each part behind those before it
+  -- the points of parts after others, each part after those before it
   abbrev pub placed_points : List Placed → List Placed → List (Point VaryingFault)
   placed_points earlier [] = []
   placed_points earlier (p ∷ ps) =
       part_points p.place types infos (seen_at p.place earlier) p.part ++ placed_points (earlier ++ p ∷ []) ps
 
-  -- the points of an item behind these parts of its group
+  -- the points of an item after these parts of its group
   abbrev pub item_points : List Placed → Item → List (Point VaryingFault)
   item_points earlier item = placed_points earlier (placed_parts item)
 
-  -- the points of items behind these parts, the first of which has this index; each fault stands in what its item makes of it
+  -- the points of items after these parts, the first of which has this index; each fault stands in what its item makes of it
   abbrev pub group_points_from : {Fault : Type 0} → (ℕ → VaryingFault → Fault) → List Placed → ℕ → List Item → List (Point Fault)
   group_points_from fault earlier index [] = []
   group_points_from fault earlier index (item ∷ items) =
@@ -255,7 +255,7 @@ far_in state location = set_contains nat_cmp state.far location
 abbrev pub seen_in : VaryingState → Seen
 seen_in state = seen_by state.near (far_in state)
 
--- what was seen, and parts behind it
+-- what was seen, and parts after it
 abbrev pub seen_with : Seen → List VaryingPart → Seen
 seen_with seen parts =
     record {
@@ -268,7 +268,7 @@ abbrev pub without_built_ins : Seen → Seen
 without_built_ins seen = record { locations = seen.locations; built_ins = λ b. false }
 
 module _ (place : VaryingPlace) (types : List IrType) (infos : List TypeInfo) where
-  -- the points of parts behind others, where this was seen before
+  -- the points of parts after others, where this was seen before
   abbrev pub points_behind : Seen → List VaryingPart → List VaryingPart → List (Point VaryingFault)
   points_behind seen earlier [] = []
   points_behind seen earlier (p ∷ ps) =
@@ -280,17 +280,17 @@ module _ (place : VaryingPlace) (types : List IrType) (infos : List TypeInfo) wh
 
 -- How the two hang together.
 
--- nothing is seen behind no part
+-- nothing is seen after no part
 abbrev pub StartsEmpty : Type 0
 StartsEmpty = (place : VaryingPlace) → seen_at place [] ≡ nothing_seen
 
--- behind a state that has seen what is seen by position, the points are those by position
+-- after a state that has seen what is seen by position, the points are those by position
 abbrev pub PointsAreByPosition : Type 0
 PointsAreByPosition =
     (types : List IrType) (infos : List TypeInfo) (earlier : List Placed) (item : Item) →
     points_from item.place types infos (seen_at item.place earlier) item.ty item.binding ≡ item_points types infos earlier item
 
--- what is left behind an item is what is seen by position behind its parts, at each place that goes its way
+-- what is left after an item is what is seen by position after its parts, at each place that goes its way
 abbrev pub LeavesTheNext : Type 0
 LeavesTheNext =
     (place : VaryingPlace) (earlier : List Placed) (parts : List VaryingPart) →

@@ -1,6 +1,6 @@
 -- How much an arena can hold.
 use Rattle.std.specs.Prelude.{ℕ}
 
--- the greatest number of values, so that 32 bits count them and each has a handle
+-- the largest number of values, so that 32 bits count them and each has a handle
 abbrev pub max_len : ℕ
 max_len = 4294967295

@@ -29,7 +29,7 @@ abbrev pub answer : {A Fault : Type 0} → Option Fault → A → Result A Fault
 answer None x = Ok x
 answer (Some f) x = Err f
 
--- a step behind another: the fault of the first if there is one, else what the second answers
+-- a step after another: the fault of the first if there is one, else what the second answers
 abbrev pub and_then : {A B Fault : Type 0} → Result A Fault → (A → Result B Fault) → Result B Fault
 and_then (Ok x) next = next x
 and_then (Err f) next = Err f

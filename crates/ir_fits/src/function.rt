@@ -32,7 +32,7 @@ fn locals_fit(locals: &[LocalVariable], fun: &Function, module: &Module) -> bool
 }
 
 /// `fits_function`, where the signatures of some functions are known to fit: those with a true mark in `fitting`, which is
-/// indexed by their handles. They are not looked at again wherever they are named.
+/// indexed by their handles. They are not checked again wherever they are named.
 pub fn fits_function_with(fun: &Function, module: &Module, fitting: &[bool], earlier: usize) -> bool
     requires fitting { MarkFitting «module».now fitting.now }
     ensures { IsTrue result ↔ FitsFunction fun.now «module».now earlier }

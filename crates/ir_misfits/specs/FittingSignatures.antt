@@ -1,4 +1,4 @@
--- The functions of a module whose signatures fit, so that none is looked at again wherever it is named.
+-- The functions of a module whose signatures fit, so that none is checked again wherever it is named.
 use Rattle.std.specs.Prelude.{◌≡◌, ◌↔◌, List, Bool, true, length}
 use Rattle.ir_module.specs.declared.module.Module.{Module}
 use Rattle.ir_facts.specs.Each.{EachAt}

@@ -73,8 +73,8 @@ pub fn check_signature(owner: Owner, fun: &Function, module: &Module) -> Result<
 
 /// A mark for each function of the module, by its handle: whether its signature fits. An Err is out of memory.
 ///
-/// A function that many Calls and results of calls name is then looked at once.
-pub fn fitting_signatures(alloc: Global, module: &Module) -> Result<Vec<bool>, AllocError>
+/// A function that many Calls and results of calls name is then checked once.
+fn fitting_signatures(alloc: Global, module: &Module) -> Result<Vec<bool>, AllocError>
     ensures { IfOk result (λ marks. AreFittingMarks «module».now marks.items) }
 {
     let mut marks = Vec::new(alloc);

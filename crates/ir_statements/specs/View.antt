@@ -142,7 +142,7 @@ abbrev mutual
   pub case_with : (ℕ → List ℕ) → SwitchCase → Cases → Cases
   case_with operands (SwitchCase' v body falls) rest = OneCase v falls (body_of operands body) rest
 
--- the operands where those of emitted expressions aren't looked at
+-- the operands where those of emitted expressions aren't checked
 abbrev pub no_operands : ℕ → List ℕ
 no_operands h = []
 

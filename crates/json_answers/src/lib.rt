@@ -1,5 +1,5 @@
 //! The verdict of a document, written as JSON or for a person.
-//! Part of `naga_judge`; no promise to users.
+//! Users import what they need of it from `json_verdict`; all else is part of `naga_judge`, with no promise to users.
 #![tactic(auto)]
 
 pub mod form;

@@ -475,7 +475,7 @@ fn no_form(held: Held, form: &[(&'static str, Field)]) -> ReadError {
     held.outside(expected_fields(held.alloc, held.value, names.as_slice()))
 }
 
-/// What the fields of an object with exactly these give. That one is missing is told before what is wrong in another.
+/// What the fields of an object with exactly these give. That one is missing is reported before what is wrong in another.
 #[tactic(auto, using(crate::proofs::Names::missing), unfolding(crate::specs::Forms::form_of))]
 pub(crate) fn read_form(held: Held, form: &[(&'static str, Field)]) -> Result<Parts, ReadError>
     requires { length form.now ≤ MOST_FIELDS }

@@ -36,7 +36,7 @@ abbrev pub lines_of : List ℕ → List (List ℕ)
 lines_of [] = []
 lines_of (b ∷ bs) = if b == 10 then [] ∷ lines_of bs else with_byte b (lines_of bs)
 
--- the replies to these texts in their order, as JSON, and the greatest of their statuses; 0 where there is no text
+-- the replies to these texts in their order, as JSON, and the largest of their statuses; 0 where there is no text
 unfoldable pub AreReplies : List (List ℕ) → List ℕ → ℕ → Type 0
 AreReplies [] out status = (out ≡ []) × (status ≡ 0)
 AreReplies (text ∷ texts) out status =

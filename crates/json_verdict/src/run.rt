@@ -65,7 +65,7 @@ pub fn run_document<R: Read, W: Write>(
     Ok(status)
 }
 
-/// Reads until the input ends, writes the verdict of each line, and answers the greatest exit status.
+/// Reads until the input ends, writes the verdict of each line, and answers the largest exit status.
 fn read_lines<R: Read, W: Write>(
     alloc: Global,
     reader: &mut R,

@@ -30,7 +30,7 @@ fn cut<'b>(bytes: &'b [u8]) -> Option<(&'b [u8], &'b [u8])>
     }
 }
 
-/// A stream of lines: the line that is being read, whether it has a byte, and the greatest exit status so far.
+/// A stream of lines: the line that is being read, whether it has a byte, and the largest exit status so far.
 #[derive(Drop)]
 pub(crate) struct Stream {
     bytes: Bytes,
@@ -97,7 +97,7 @@ impl Stream {
         Ok(())
     }
 
-    /// Writes the verdict of the last line, if it has a byte, and answers the greatest exit status.
+    /// Writes the verdict of the last line, if it has a byte, and answers the largest exit status.
     pub fn finish<W: Write>(&mut self, alloc: Global, writer: &mut W) -> io::Result<u8>
         ensures { IfOk result (λ status. (input : List ℕ) (start : Option (List ℕ)) →
             HasTaken self.old input start (W.contents writer.old) →

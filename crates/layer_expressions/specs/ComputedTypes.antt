@@ -223,7 +223,7 @@ abbrev pub or_untyped : {A : Type 0} → ℕ → (TypeResolution → Result A Un
 or_untyped h next (Ok t) = next t
 or_untyped h next (Err broken) = Err (record { handle = h; rule = broken })
 
--- the types of these expressions behind those of the ones before them, or the first that has none
+-- the types of these expressions after those of the ones before them, or the first that has none
 unfoldable pub types_from : Module → List FunctionArgument → List LocalVariable → List Expression → List TypeResolution →
     List Expression → Result (List TypeResolution) Untyped
 types_from m arguments locals xs earlier [] = Ok earlier

@@ -1,5 +1,5 @@
 //! The types of expressions, computed from a module alone, or the rule that one breaks ([`types_of`], [`global_types`]).
-//! Part of `naga_layers`; no promise to users.
+//! Users import `global_types`, `Untyped` and `Rule` from `naga_layers`; all else is part of it, with no promise to users.
 #![tactic(auto)]
 
 mod access;

@@ -20,7 +20,7 @@ use ir_types::typifier::TypeResolution;
 use layer_forms::{ImageQuery, Loading};
 use layer_shapes::shapes::Shape;
 
-/// What is known of the operands of an image load behind the image.
+/// What is known of the operands of an image load after the image.
 #[derive(Clone, Copy)]
 pub(crate) struct Loaded {
     pub coordinate: Option<Shape>,

@@ -20,7 +20,7 @@ use ir_types::typifier::TypeResolution;
 use layer_forms::{LevelKind, SampleForm};
 use layer_shapes::shapes::{Shape, four_bytes, is_float};
 
-/// What is known of the operands of an image sample behind the image.
+/// What is known of the operands of an image sample after the image.
 #[derive(Clone, Copy)]
 pub(crate) struct Sampled {
     pub comparison: Option<bool>,

@@ -312,6 +312,9 @@ fn type_of(
 }
 
 /// The type of each of these expressions of a function of these arguments and locals, or the first that has none.
+///
+/// The inner Err is that first one, with the rule that it breaks; `rule.number()` is the n of `Lower(n)`. The outer Err is out of
+/// memory.
 #[tactic(auto, unfolding(crate::specs::ComputedTypes::types_from))]
 pub fn types_of(
     alloc: Global,
@@ -341,7 +344,7 @@ pub fn types_of(
     Ok(Ok(Sequence::from(types)))
 }
 
-/// The type of each global expression of a module, or the first that has none.
+/// The type of each global expression of a module, by its handle, or the first that has none. Errors are those of [`types_of`].
 pub fn global_types(
     alloc: Global,
     module: &Module,

@@ -92,7 +92,7 @@ fn write_leaf<W: fmt::Write>(writer: &mut W, inner: &TypeInner) -> fmt::Result {
     }
 }
 
-/// What a pointer or an array holds, behind what it is.
+/// What a pointer or an array holds, after what it is.
 fn write_held<W: fmt::Write>(
     writer: &mut W,
     before: &str,

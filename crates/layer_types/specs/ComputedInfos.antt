@@ -45,7 +45,7 @@ own_info types infos own i = leaf_info i
 abbrev pub info_of : List IrType → List TypeInfo → ℕ → TypeInner → TypeInfo
 info_of types infos own i = unwrap_or (own_info types infos own i) (ill_formed own)
 
--- the infos of these types behind those of the types before them
+-- the infos of these types after those of the types before them
 unfoldable pub infos_from : List IrType → List TypeInfo → List IrType → List TypeInfo
 infos_from types infos [] = infos
 infos_from types infos (t ∷ rest) = infos_from types (infos ++ info_of types infos (length infos) t.inner ∷ []) rest

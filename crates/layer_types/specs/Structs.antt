@@ -35,7 +35,7 @@ begun =
 abbrev pub has_extent : DataPart → Bool
 has_extent part = is_some part.size || not (contains part.info.flags.0 SIZED.0)
 
--- a member lies behind those before it, of which none is without a size, and is aligned
+-- a member lies after those before it, of which none is without a size, and is aligned
 abbrev pub fits_behind : Laid → DataPart → ℕ → Bool
 fits_behind laid part offset =
     not laid.is_open && (nat_le laid.end offset && (is_aligned part.alignment offset && has_extent part))

@@ -52,7 +52,7 @@ fn has_extent(part: &DataPart) -> bool
     part.size.is_some() || !part.info.flags.contains(TypeFlags::SIZED)
 }
 
-/// Whether a member lies behind those before it.
+/// Whether a member lies after those before it.
 fn fits_behind(laid: &Laid, part: &DataPart, offset: u32) -> bool
     ensures { result ≡ fits_behind laid.now part.now offset }
 {

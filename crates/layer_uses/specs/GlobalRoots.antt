@@ -14,7 +14,7 @@ root_of earlier (e.Access base index) = root_at earlier base
 root_of earlier (e.AccessIndex base k) = root_at earlier base
 root_of earlier _ = None
 
--- the roots of these expressions behind those of the ones before them
+-- the roots of these expressions after those of the ones before them
 unfoldable pub roots_from : List (Option ℕ) → List Expression → List (Option ℕ)
 roots_from earlier [] = earlier
 roots_from earlier (x ∷ rest) = roots_from (earlier ++ root_of earlier x ∷ []) rest

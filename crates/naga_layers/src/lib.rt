@@ -1,4 +1,4 @@
-//! For users: three lower layers: `Recorded` answers recorded facts, `Typed` computes, `Plain` types the plainest expressions.
+//! For users: lower layers: `Recorded` and `Lent` answer recorded facts, `Typed` computes, `Plain` types the plainest expressions.
 #![tactic(auto)]
 
 mod infos;

@@ -33,6 +33,8 @@ use std::alloc::{AllocError, Global};
 
 /// The lower layer that needs no facts: it computes types, uses, stages, kinds, sizes and the outputs of mesh shaders from the
 /// module. An expression that has no type is refused as `Lower(n)`, where n is the number of the rule that it breaks.
+///
+/// `check_module` over it takes the infos of `type_infos` and the types of `global_types`.
 #[derive(Clone, Copy)]
 pub struct Typed;
 

@@ -1,4 +1,4 @@
--- Lemma-level words for the code of `check_module`: how an answer behind a part of a module's functions is one about all.
+-- Lemma-level words for the code of `check_module`: how an answer after a part of a module's functions is one about all.
 use Rattle.std.specs.Prelude.{◌≡◌, ◌⊎◌, List, Result, Err}
 use Rattle.ir_module.specs.declared.functions.Function.{Function}
 use Rattle.ir_module.specs.declared.module.EntryPoint.{EntryPoint}
@@ -17,7 +17,7 @@ abbrev pub IsRightFault : {A : Type 0} → (Result A ModuleFault → Type 0) →
 IsRightFault Right found = (found ≡ fault.Memory) ⊎ Right (Err found)
 
 module _ (below : Meaning) (settings : Settings) (types : List TypeInfo) (m : Module) where
-  -- what is right behind these functions, infos and traces is right of those
+  -- what is right after these functions, infos and traces is right of those
   abbrev pub Leads : TraceState → ModuleInfo → List Function → TraceState → ModuleInfo → List Function → Type 0
   Leads trace infos fs left more rest =
       (r : ModuleAnswer) → FunctionsAnswer below settings types m left more rest r →

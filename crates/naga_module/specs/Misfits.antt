@@ -52,7 +52,7 @@ infos_points m infos = one_info_each m infos ∷ points_of_each (info_points (le
 abbrev pub module_function_points : Module → ℕ → Function → MisfitPoints
 module_function_points m k f = function_points (owner.Function k) f m k
 
--- entry point k: its function, behind all functions, and what else it names
+-- entry point k: its function, after all functions, and what else it names
 abbrev pub entry_point_points : Module → ℕ → EntryPoint → MisfitPoints
 entry_point_points m k p =
     function_points (owner.EntryPoint k) p.function m (length m.functions) ++ entry_points k p m

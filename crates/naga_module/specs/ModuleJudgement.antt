@@ -1,6 +1,6 @@
 -- The judgement of a whole module: the tests of what it and the infos name; its globals; its functions in order, each with the
 -- infos of those before it; the sizes of task payloads; its entry points in order, each with all infos so far. What ray traces
--- leave goes from each to the next. It is told as what an answer has to be, since a test is a proposition.
+-- leave goes from each to the next. It is given as what an answer has to be, since a test is a proposition.
 use Rattle.std.specs.Prelude.{◌≡◌, ◌⊎◌, ℕ, false, List, [], ◌∷◌, ◌++◌, Result, Ok, Err, length}
 use Rattle.ir_facts.specs.Fits.{FitsTypes, FitsGlobals, FitsFunction, FitsEntry}
 use Rattle.ir_arena.specs.Points.{Point, first_fault, answer, within, points_of_each}
@@ -71,7 +71,7 @@ module _ (below : Meaning) (settings : Settings) (types : List TypeInfo) (m : Mo
   abbrev pub globals_step : ModuleInfo → Result Unit ModuleFault
   globals_step infos = answer (first_fault (points_of_each (points_of_global infos) m.global_variables)) tt
 
-  -- the entry points from here on, behind these infos and what ray traces left
+  -- the entry points from here on, after these infos and what ray traces left
   unfoldable pub EntriesAnswer : TraceState → ModuleInfo → List EntryPoint → ModuleAnswer → Type 0
   EntriesAnswer trace infos [] r = r ≡ Ok infos
   EntriesAnswer trace infos (p ∷ ps) r =
@@ -79,11 +79,11 @@ module _ (below : Meaning) (settings : Settings) (types : List TypeInfo) (m : Mo
       (AnswersStep (entry_judgement below settings types trace m infos p) (IsOfEntryPoint (length infos.entry_points))
       (λ left. EntriesAnswer left.trace (with_entry infos left.info) ps)) r
 
-  -- behind the functions: the sizes of task payloads, then the entry points
+  -- after the functions: the sizes of task payloads, then the entry points
   abbrev pub BehindFunctions : TraceState → ModuleInfo → ModuleAnswer → Type 0
   BehindFunctions trace infos r = Tested (HasPayloadSizes below m) (EntriesAnswer trace infos m.entry_points) r
 
-  -- the functions from here on, and what is behind them
+  -- the functions from here on, and what is after them
   unfoldable pub FunctionsAnswer : TraceState → ModuleInfo → List Function → ModuleAnswer → Type 0
   FunctionsAnswer trace infos [] r = BehindFunctions trace infos r
   FunctionsAnswer trace infos (f ∷ fs) r =
@@ -92,7 +92,7 @@ module _ (below : Meaning) (settings : Settings) (types : List TypeInfo) (m : Mo
       (IsOfFunction (fault.Function (length infos.functions)))
       (λ left. FunctionsAnswer left.trace (with_info infos left.info) fs)) r
 
-  -- behind the tests: the globals, then the functions
+  -- after the tests: the globals, then the functions
   abbrev pub BehindTests : TraceState → ModuleInfo → ModuleAnswer → Type 0
   BehindTests trace infos r =
       AnswersStep (globals_step infos) (IsOfFunction (λ e. e)) (λ done. FunctionsAnswer trace infos m.functions) r

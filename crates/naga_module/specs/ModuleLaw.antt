@@ -1,4 +1,4 @@
--- What is known of a module that is accepted, by what is looked at.
+-- What is known of a module that is accepted, by what is checked.
 use Rattle.std.specs.Prelude.{◌≡◌, ℕ, true, List, [], Some, Ok, Err, ⊤, slice_get}
 use Rattle.ir_facts.specs.Each.{EachAt}
 use Rattle.ir_facts.specs.Fits.{FitsFunction}
@@ -28,7 +28,7 @@ use Rattle.check_faults.specs.declared.module.ModuleFault.TheVariants as fault
 abbrev pub IsSoundFunction : Function → Type 0
 IsSoundFunction f = RunsAreSure (pre_emitted_of f) (body_of f)
 
--- Of a module that was accepted with these infos, where bodies are looked at: all runs of the body of each function and of each
+-- Of a module that was accepted with these infos, where bodies are checked: all runs of the body of each function and of each
 -- entry point are sound; each entry point keeps to its stage through all chains of calls; no Return stands in a continuing part;
 -- each Switch has whole cases; and the stages of each info are stages of each statement of its body, at any depth, and of each
 -- function that it calls.
@@ -48,13 +48,13 @@ pub record ModuleHolds (below : Meaning) (settings : Settings) (types : List Typ
   pub entry_stages : OfEntryPoints m infos (λ k p info.
       StagesAreOfAll settings.subgroup_stages infos (body_of p.function) info.available_stages)
 
--- Of an accepted module, where bodies and expressions are looked at: each result of a call is filled once, by a Call of its
+-- Of an accepted module, where bodies and expressions are checked: each result of a call is filled once, by a Call of its
 -- function, and each result of an atomic once, by an Atomic.
 pub record ModuleFillsOnce (m : Module) : Type 0 where
   pub functions : (k : ℕ) (f : Function) → slice_get m.functions k ≡ Some f → ResultsAreFilledOnce f
   pub entry_points : (k : ℕ) (p : EntryPoint) → slice_get m.entry_points k ≡ Some p → ResultsAreFilledOnce p.function
 
--- Of a module that was accepted with these infos, where bindings are looked at: no two globals that an entry point uses are
+-- Of a module that was accepted with these infos, where bindings are checked: no two globals that an entry point uses are
 -- bound at one place, and no two parts of a group of its inputs or outputs take one location.
 pub record ModuleBindsApart (settings : Settings) (types : List TypeInfo) (m : Module) (infos : ModuleInfo) : Type 0 where
   pub bindings : OfEntryPoints m infos (λ k p info. BindingsAreDistinct m.global_variables info.global_uses)
@@ -72,7 +72,7 @@ OfAcceptedModule Holds =
 abbrev pub AcceptedModuleIsJudged : Type 0
 AcceptedModuleIsJudged = OfAcceptedModule ModuleIsJudged
 
--- what holds where bodies are looked at
+-- what holds where bodies are checked
 abbrev pub AcceptedModuleHolds : Type 0
 AcceptedModuleHolds =
     OfAcceptedModule (λ below settings types m infos. checks_blocks settings.flags ≡ true →
@@ -90,7 +90,7 @@ AcceptedModuleBindsApart =
     OfAcceptedModule (λ below settings types m infos. checks_bindings settings.flags ≡ true →
     ModuleBindsApart settings types m infos)
 
--- the fault of a function, or want of memory
+-- the fault of a function, or out of memory
 abbrev pub IsReportedOfFunctions : ModuleFault → Type 0
 IsReportedOfFunctions (fault.Function handle error) = ⊤
 IsReportedOfFunctions fault.Memory = ⊤
@@ -98,7 +98,7 @@ IsReportedOfFunctions fault.NotFit = ⊥
 IsReportedOfFunctions (fault.Global handle error) = ⊥
 IsReportedOfFunctions (fault.EntryPoint index error) = ⊥
 
--- Of a module without globals and entry points in which everything fits nothing else can be told.
+-- Of a module without globals and entry points in which everything fits nothing else can be reported.
 abbrev pub FunctionsAloneAreReported : Type 0
 FunctionsAloneAreReported =
     (below : Meaning) (settings : Settings) (types : List TypeInfo) (global_types : List TypeResolution) (m : Module)

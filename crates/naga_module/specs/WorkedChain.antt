@@ -57,7 +57,7 @@ of_fragments = record { expression_types = []; global_uses = []; available_stage
 abbrev pub chain_infos : ModuleInfo
 chain_infos = record { functions = of_fragments ∷ of_fragments ∷ of_fragments ∷ []; entry_points = []; global_types = [] }
 
--- bodies and expressions are looked at, and the target can do nothing more than it must
+-- bodies and expressions are checked, and the target can do nothing more than it must
 abbrev pub chain_settings : Settings
 chain_settings =
     record {

@@ -14,7 +14,7 @@ use Rattle.naga_runs.specs.PutsAndUses.{acts_of, with_acts, with_body}
 use Rattle.naga_runs.specs.Visits.{VisitPlace, Visit, at_begin, visits_of}
 use Rattle.naga_runs.specs.declared.Abilities.{Abilities}
 
--- behind a statement
+-- after a statement
 abbrev pub past : Stmt → VisitPlace → VisitPlace
 past x c = record c { scope = with_acts c.scope (acts_of x); must = with_acts c.must (acts_of x) }
 

@@ -6,7 +6,7 @@ use Rattle.ir_statements.specs.Tree.{Body}
 use Rattle.naga_runs.specs.Handles.{Handles}
 use Rattle.naga_runs.specs.Visits.{Visit, visits_of}
 
--- The points of a visit, asked with a state of the visits before it, and what a visit adds to that state.
+-- The points of a visit, given a state of the visits before it, and what a visit adds to that state.
 pub record Rules (State Fault : Type 0) : Type 0 where
   pub points : State → Visit → List (Point Fault)
   pub advance : State → Visit → State
@@ -16,7 +16,7 @@ unfoldable pub state_after : {State Fault : Type 0} → Rules State Fault → St
 state_after R st [] = st
 state_after R st (v ∷ vs) = state_after R (R.advance st v) vs
 
--- the points of visits in their order, each asked with the state of all visits before it, where those of `earlier`
+-- the points of visits in their order, each given the state of all visits before it, where those of `earlier`
 -- came before the first
 abbrev pub points_after : {State Fault : Type 0} →
     Rules State Fault → State → List Visit → List Visit → List (Point Fault)

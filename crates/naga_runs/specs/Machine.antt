@@ -82,8 +82,8 @@ closing None live cs again = again cs
 closing (Some h) live cs again =
     by_choice live cs (λ c rest. at_zero c (λ left_over. Ran [] Next 0 live left_over) again rest)
 
--- after a continuing list, behind a body list that was cut there: the break condition, if it goes on. A Kill passes on;
--- a Break, Continue or Return is stuck
+-- after a continuing list, which comes after a body list that was cut there: the break condition, if it goes on. A Kill
+-- passes on; a Break, Continue or Return is stuck
 abbrev pub then_close : Option ℕ → Run → Option ℕ → Position → List (Option ℕ) → Handles → (List ℕ → Run) → Run
 then_close cut (Ran es Next i l cs) q p cuts live again =
     after es

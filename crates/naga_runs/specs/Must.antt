@@ -1,5 +1,5 @@
--- Must: handles of the scope that every run has put where it comes to a position, and that may be used there. It goes by
--- the tree alone, so a Continue that no run reaches takes handles away all the same.
+-- Must: handles of the scope that every run has put where it comes to a position, and that may be used there. It depends
+-- on the tree alone, so a Continue that no run reaches takes handles away all the same.
 use Rattle.std.specs.Prelude.{Bool, true, false, ◌||◌, if◌then◌else◌}
 use Rattle.ir_statements.specs.Tree.{Stmt, Body, Cases, Block, Branch, Switch, Continue, Done, Then, NoCase, OneCase, Leaf, Loop, Break, Return, Kill}
 use Rattle.naga_runs.specs.Handles.{Handles}

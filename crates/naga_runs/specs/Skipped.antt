@@ -40,18 +40,18 @@ skipped_from s b (In part i ∷ p) cuts =
 abbrev pub skipped_at : Body → Position → List (Option ℕ) → Handles
 skipped_at b p cuts = skipped_from no_handles b p cuts
 
--- a part behind the body list of a Loop
+-- a part after the body list of a Loop
 abbrev pub is_behind_body : Part → Bool
 is_behind_body Continuing = true
 is_behind_body Condition = true
 is_behind_body _ = false
 
--- how many steps of a position lead behind a body list
+-- how many steps of a position lead past a body list
 abbrev pub count_behind : Position → ℕ
 count_behind [] = 0
 count_behind (In part i ∷ p) = if is_behind_body part then suc (count_behind p) else count_behind p
 
--- the cut of the Loop behind whose body list the n-th such step leads
+-- the cut of the Loop past whose body list the n-th such step leads
 abbrev pub nth_cut : List (Option ℕ) → ℕ → Option ℕ
 nth_cut [] n = None
 nth_cut (cut ∷ cuts) zero = cut

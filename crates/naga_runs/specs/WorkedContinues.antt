@@ -22,7 +22,7 @@ recorded_by b choices =
 abbrev pub calls_with : ℕ → Stmt
 calls_with h = Leaf (Use h ∷ []) (s.Call 0 (h ∷ []) None) nowhere
 
--- A Continue in a Block in an If: the index is that of the If, and what stands behind the If is skipped.
+-- A Continue in a Block in an If: the index is that of the If, and what stands after the If is skipped.
 pub record InnerBlockContinues : Type 0 where
   pub must : musts continue_in_inner_block ≡
       (0 ∷ 1 ∷ 2 ∷ 4 ∷ [])
@@ -56,7 +56,7 @@ pub record ContinuingContinues : Type 0 where
       ∷ []
   pub stuck : ends continue_in_continuing (0 ∷ []) ≡ Stuck
 
--- A Continue behind a Return: no run reaches it or skips anything, and it takes the emission away all the same.
+-- A Continue after a Return: no run reaches it or skips anything, and it takes the emission away all the same.
 pub record ReturnsFirst : Type 0 where
   pub must : musts continue_behind_return ≡
       (0 ∷ 1 ∷ 2 ∷ 4 ∷ [])
@@ -78,7 +78,7 @@ pub record ReturnsFirst : Type 0 where
       ∷ []
   pub goes_on : ends continue_behind_return (1 ∷ 0 ∷ []) ≡ Next
 
--- Two Continues: the list counts before the first alone, and each skips what stands behind it.
+-- Two Continues: the list counts before the first alone, and each skips what stands after it.
 pub record ContinuesTwice : Type 0 where
   pub must : musts two_continues ≡
       (0 ∷ 1 ∷ 2 ∷ 4 ∷ [])
@@ -109,7 +109,7 @@ pub record ContinuesTwice : Type 0 where
       ∷ (Use 3, In Root 0 ∷ In Condition 0 ∷ [], 0 ∷ 1 ∷ 2 ∷ 3 ∷ 4 ∷ 5 ∷ [], [])
       ∷ []
 
--- A Continue of a nested Loop, with an emission of the outer Loop behind it: the emission is not skipped.
+-- A Continue of a nested Loop, with an emission of the outer Loop after it: the emission is not skipped.
 pub record InnerContinues : Type 0 where
   pub must : musts inner_continue_before ≡
       (0 ∷ 1 ∷ 2 ∷ 4 ∷ [])
@@ -127,7 +127,7 @@ pub record InnerContinues : Type 0 where
       ∷ []
   pub goes_on : ends inner_continue_before (0 ∷ 0 ∷ []) ≡ Next
 
--- An emission before the Continue and one behind it, both used in the continuing list: the first is live in each run,
+-- An emission before the Continue and one after it, both used in the continuing list: the first is live in each run,
 -- the second is skipped in one.
 pub record EmitsRoundContinue : Type 0 where
   pub must : musts emits_round_continue ≡

@@ -82,7 +82,7 @@ pub record OperandRows : Type 0 where
   -- emit 5 emit 6 emit 6
   pub emitted_twice : plainly (Then emit_5 (Then emit_6 (one emit_6))) ≡ Err (AlreadyInScope 6)
 
--- What a Continue may have skipped: uses go by what every run has put, puts by the scope.
+-- What a Continue may have skipped: uses depend on what every run has put, puts on the scope.
 pub record SureRows : Type 0 where
   -- loop { if 0 { continue } { } emit 3 } { } break_if 3
   pub skipping : plainly (one (Loop (Then may_continue_here (one (emit 3))) Done (Some 3))) ≡ Err (NotInScope 3)

@@ -73,7 +73,7 @@ LoopInScope =
     ∷ (0 ∷ 1 ∷ 2 ∷ 4 ∷ [])
     ∷ []
 
--- Of the body list, what stands behind the If that holds a Continue does not count.
+-- Of the body list, what stands after the If that holds a Continue does not count.
 abbrev pub LoopInMust : Type 0
 LoopInMust =
     musts whole_loop ≡
@@ -278,7 +278,7 @@ TwiceInScope =
     ∷ (0 ∷ 1 ∷ 2 ∷ 3 ∷ 4 ∷ [])
     ∷ []
 
--- Neither emission behind a Continue counts, the one in the inner continuing list does.
+-- Neither emission after a Continue counts, the one in the inner continuing list does.
 abbrev pub TwiceInMust : Type 0
 TwiceInMust =
     musts skipping_twice ≡

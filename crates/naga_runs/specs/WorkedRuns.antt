@@ -252,7 +252,7 @@ pub record SkipsOnce : Type 0 where
       ∷ (3 ∷ [])
       ∷ []
 
--- The index is that of the body's own statement, the Block: what it put is gone, what stands behind it is skipped.
+-- The index is that of the body's own statement, the Block: what it put is gone, what stands after it is skipped.
 pub record SkipsFromBlock : Type 0 where
   pub trace : trace_of (run continue_in_block given 1 (0 ∷ [])) ≡
       (Put 3, In Root 0 ∷ In LoopBody 0 ∷ [])

@@ -65,7 +65,7 @@ impl<'a, B: Below> InterfaceContext<'a, B> {
         Ok(())
     }
 
-    /// An argument, counted from 0, at its place behind what the state has seen.
+    /// An argument, counted from 0, at its place after what the state has seen.
     fn check_argument(
         &self,
         place: &VaryingPlace,

@@ -6,7 +6,7 @@ use crate::entry::EntryPointError;
 use std::alloc::{AllocError, Global};
 
 impl EntryPointError {
-    /// An equal error.
+    /// An equal error. An Err is out of memory.
     pub fn clone(&self, alloc: Global) -> Result<Self, AllocError>
         ensures { IfOk result (λ made. made ≡ self.now) }
     {

@@ -24,7 +24,7 @@ cases_points cases =
     ∷ (not (last_falls_through cases), LastCaseFallTrough)
     ∷ []
 
--- what is known behind a value, if its number is above those before it, or it is the first default
+-- what is known after a value, if its number is above those before it, or it is the first default
 abbrev pub risen_to : Rising → ℤ → Option Rising
 risen_to so_far n =
     if int_le n so_far.last then None else Some (record { last = n; has_default = so_far.has_default })

@@ -78,7 +78,7 @@ stored_texel_points context place image coordinate array_index =
     ∷ store_point (is_storage_class shape.class) (wrong.InvalidImageClass shape.class)
     ∷ texel_points by.Store context place shape.dim shape.arrayed coordinate array_index
 
--- the texel of an ImageAtomic, and what is asked behind it
+-- the texel of an ImageAtomic, and what is asked after it
 abbrev pub changed_points : Context →
     VisitPlace → ImageDimension → Bool → ℕ → Option ℕ → ImageClass → AtomicFunction → ℕ → Points
 changed_points context place dim arrayed coordinate array_index class fun value =

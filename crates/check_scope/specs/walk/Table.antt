@@ -126,8 +126,8 @@ pub record HasEntered (before after : ScopeColumn) : Type 0 where
   pub number : (shown after).innermost ≡ scopes before
   pub taken : scopes before ≤ scopes after
 
--- the puts behind a statement of a Loop's body list: where it is the first that holds a Continue, those of the statements
--- behind it get a scope of their own, which is to be left for the one of the number that is given
+-- the puts after a statement of a Loop's body list: where it is the first that holds a Continue, those of the statements
+-- after it get a scope of their own, which is to be left for the one of the number that is given
 abbrev pub Divides : ScopeColumn → ScopeColumn → Option ℕ → Bool → Option ℕ → Type 0
 Divides before after None true None = ⊥
 Divides before after None true (Some home) =

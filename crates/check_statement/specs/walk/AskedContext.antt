@@ -29,7 +29,7 @@ asked_context settings trace program earlier fun kinds info =
       trace = trace;
     }
 
--- what is known of a function behind its declarations and its expressions
+-- what is known of a function after its declarations and its expressions
 abbrev pub known_behind : Meaning → List TypeInfo → Bool → Context → Result FunctionInfo FunctionError
 known_behind below infos entry_point context =
     and_then (declarations_step infos entry_point context) (λ info. expressions_known below (record context { info = info }))

@@ -32,12 +32,12 @@ kept filled state = record { stages = state.stages; filled = filled_in filled; t
 abbrev pub seen : State → Past
 seen state = record { filled = state.filled; payload = state.trace.payload }
 
--- the results that are filled behind a visit
+-- the results that are filled after a visit
 abbrev pub with_result : Handles → Option ℕ → Handles
 with_result filled None = filled
 with_result filled (Some r) = with_handle filled r
 
--- the state behind a statement
+-- the state after a statement
 abbrev pub with_statement : Context → State → Stmt → State
 with_statement context state x =
     record {
@@ -72,7 +72,7 @@ state_left context visits =
       trace = trace_after context.trace context visits;
     }
 
--- what the code answers of a body: the stages and what ray traces leave, where each result is filled behind it
+-- what the code answers of a body: the stages and what ray traces leave, where each result is filled after it
 abbrev pub body_outcome : Context → List Visit → BodyOutcome
 body_outcome context visits =
     record {

@@ -26,7 +26,7 @@ unfoldable pub puts_to_continue : Body → List ℕ
 puts_to_continue Done = []
 puts_to_continue (Then x b) = if holds_continue x then puts x else (puts x ++ puts_to_continue b)
 
--- behind the body list of a Loop: its puts are in scope, and every run has put the first of them
+-- after the body list of a Loop: its puts are in scope, and every run has put the first of them
 abbrev pub behind_loop_body : Sets → Body → Sets
 behind_loop_body s b = record { scope = with_all s.scope (body_puts b); must = with_all s.must (puts_to_continue b) }
 

@@ -15,7 +15,7 @@ abbrev pub is_among : IrType → List IrType → Bool
 is_among t [] = false
 is_among t (x ∷ xs) = (ir_type.ghosts).eq x t || is_among t xs
 
--- these types and those behind them, of which none equals an earlier one
+-- these types and those after them, of which none equals an earlier one
 abbrev pub types_behind : List IrType → List IrType → Option (List IrType)
 types_behind done [] = Some done
 types_behind done (t ∷ ts) = if is_among t done then None else types_behind (done ++ t ∷ []) ts

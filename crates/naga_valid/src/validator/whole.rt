@@ -35,7 +35,8 @@ impl<B: Below> Validator<B> {
     ///
     /// With BLOCKS, and if the steps before the body pass, `NotInScope` of a body without dead code, for a use or an
     /// argument of a call, says that some run uses what isn't live; a refused jump, that some run is stuck by it:
-    /// `witnessed` and `stuck` of `function_law`. A lower layer may answer `NotInScope` itself, of which nothing is said.
+    /// `witnessed` and `stuck` of `function_law`. A lower layer may answer `NotInScope` itself; the law makes no
+    /// claim about that.
     pub fn validate_function(
         &mut self,
         alloc: Global,

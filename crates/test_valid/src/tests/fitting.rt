@@ -45,10 +45,10 @@ fn expect_tests(
     holds!(rt; found.as_slice() == expected);
 }
 
-/// An entry point whose payload is the greatest handle.
+/// An entry point whose payload is the largest handle.
 const MALICIOUS: Row = Row {
     payload: Some(GREATEST),
-    told: "NotFit: a handle or a range is out of bounds or out of order, or a fact is missing",
+    told: "NotFit: a handle or a range is out of bounds or out of order, a fact is missing, or a global is where none may be",
     ..AT_COMPUTE
 };
 
@@ -58,7 +58,7 @@ const TAKING: Row = Row {
     ..AT_COMPUTE
 };
 
-/// The greatest handle stands where one test sees it, and no other.
+/// The largest handle stands where one test sees it, and no other.
 #[test]
 fn tests_of_conditions(rt: HostRuntime) {
     let mut bench = make_bench(&rt);

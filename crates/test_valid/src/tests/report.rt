@@ -166,7 +166,7 @@ fn assert_module_told(rt: &(impl Abort + AllocGlobal), fault: &ModuleFault, expe
 static MODULE_FAULTS: [(&str, &str); 5] = [
     (
         "NotFit",
-        "NotFit: a handle or a range is out of bounds or out of order, or a fact is missing",
+        "NotFit: a handle or a range is out of bounds or out of order, a fact is missing, or a global is where none may be",
     ),
     (
         "Global",
