@@ -1,5 +1,6 @@
 pub mod Members
 pub mod Values
+pub mod Order
 pub mod Held
 pub mod Written
 pub mod Views

@@ -1,5 +1,5 @@
 -- What a node says of its data, by what its element says of the value in the text.
-use Rattle.std.proofs.Common.{◌≡◌, ℕ, ◌≤◌, Bool, false, List, Option, Some, None, is_some, MatchOption, IfNone, option_and_then, sym, ap, ap₂, ◌∙◌, subst, le_trans, arith}
+use Rattle.std.proofs.Common.{◌≡◌, ℕ, ◌≤◌, Bool, true, false, List, Option, Some, None, is_some, MatchOption, IfNone, option_and_then, sym, ap, ap₂, ◌∙◌, subst, le_trans, arith}
 use Rattle.std.proofs.lemmas.Option.{same_Some}
 use Rattle.std.specs.Option.{option_map_or}
 use Rattle.json.specs.Token.{Token}
@@ -12,10 +12,11 @@ use Rattle.serde_json.specs.Find.{get, as_array, as_object}
 use Rattle.serde_json.specs.Read.{of_json, of_items, max_depth}
 use Rattle.json_nodes.specs.Nodes.{data_of, items_of, HoldsData, HoldsItems}
 use Rattle.json_nodes.specs.Fields.{only_of, has_no_other}
-use Rattle.json_nodes.specs.Written.{only_field, are_among}
+use Rattle.json_nodes.specs.Written.{only_field, are_among, are_in_order}
 use Rattle.json_nodes.proofs.Members.{json_names_among, json_only}
 use Rattle.json_nodes.proofs.Values.{array_parts, object_parts, item_parts, field_found, only_field_kept, no_other_kept}
 use Rattle.json_nodes.proofs.Written.{meant, only_meant, only_found, only_same, only_below, among_written, field_below}
+use Rattle.json_nodes.proofs.Order.{is_in_order, HasThese, in_order_kept}
 use Rattle.json_nodes.proofs.Held.{reading, begins, shallow, holds, items_reading, begins_items, shallow_items, holds_items}
 
 only_at : (name : List ℕ) (c d whole : serde.Data) (ds : serde.Members) → c ≡ d → only_of ds ≡ Some (name, d) → serde.object ds ≡ whole → Some (name, c) ≡ option_and_then only_of (as_object whole)
@@ -81,6 +82,15 @@ module _ (ts node : List Token) (view : ts ≡ node) (h : HoldsData ts) where
       (λ j at.
       let f = says j at in
       among f.0 f.2 ∙ among_written names f.0 ∙ ap (λ i. option_map_or (json_names_among names) (find.as_object i) false) (sym f.1))
+
+  -- it has these fields in this order
+  pub these : (names : List (List ℕ)) (rest : List Token) (b : Bool) → ((j : Json) → BeginsWith ts j → (ms : Members) × (j ≡ object ms) × InMembers rest ms)
+      → ((ms : Members) → InMembers rest ms → b ≡ are_in_order names ms) → b ≡ true → HasThese names (data_of node)
+  these names rest b says order is =
+      let r = reading ts h in
+      let f = says r.written (begins ts r) in
+      subst (HasThese names) (sym r.same ∙ ap data_of view)
+      (in_order_kept names r.written r.found r.means (ap (is_in_order names) f.1 ∙ sym (order f.0 f.2) ∙ is))
 
 -- an object has members
 pub has_members : (o : Option (List Token)) (j : Json) → MatchOption o (find.as_object j ≡ None) (λ rest. (ms : Members) × (j ≡ object ms) × InMembers rest ms) → is_some o ≡ is_some (find.as_object j)

@@ -1,10 +1,10 @@
--- The fields of an object: the only one, and whether their names are among those that are allowed.
-use Rattle.std.specs.Prelude.{ℕ, ◌&&◌, List, Bool, true, false, Option, Some, None}
+-- The fields of an object: the only one, whether their names are among those that are allowed, whether each of some is there.
+use Rattle.std.specs.Prelude.{ℕ, ◌&&◌, List, [], ◌∷◌, Bool, true, false, Option, Some, None, is_some}
 use Rattle.std.specs.List.{list_any}
 use Rattle.std.specs.Option.{option_map_or}
 use Rattle.std.specs.Str.{bytes_eq}
 use Rattle.serde_json.specs.Data.{Data, Members, no_members, member}
-use Rattle.serde_json.specs.Find.{as_object}
+use Rattle.serde_json.specs.Find.{get, as_object}
 
 -- the only member, with its name
 abbrev pub only_of : Members → Option (List ℕ × Data)
@@ -24,3 +24,8 @@ names_among names (member k d ms) = is_among k names && names_among names ms
 -- whether it is an object, and each of its fields has one of these names
 abbrev pub has_no_other : List (List ℕ) → Data → Bool
 has_no_other names d = option_map_or (names_among names) (as_object d) false
+
+-- whether each of these is the name of a field
+abbrev pub has_fields : List (List ℕ) → Data → Bool
+has_fields [] d = true
+has_fields (name ∷ names) d = is_some (get name d) && has_fields names d

@@ -1,5 +1,5 @@
 -- The fields of an object as they stand in a text, where a name may come again.
-use Rattle.std.specs.Prelude.{ℕ, ◌&&◌, List, Bool, true, if◌then◌else◌, Option, Some, None, option_map}
+use Rattle.std.specs.Prelude.{ℕ, ◌&&◌, List, [], ◌∷◌, Bool, true, false, if◌then◌else◌, Option, Some, None, option_map}
 use Rattle.std.specs.Str.{bytes_eq}
 use Rattle.json.specs.Json.{Json, Members, no_members, member}
 use Rattle.json_nodes.specs.Fields.{is_among}
@@ -18,3 +18,10 @@ only_field (member k j ms) = option_map (λ i. (k, i)) (last_value k j ms)
 abbrev pub are_among : List (List ℕ) → Members → Bool
 are_among names no_members = true
 are_among names (member k j ms) = is_among k names && are_among names ms
+
+-- whether the names of the members are these, one after the other, and no other member comes
+abbrev pub are_in_order : List (List ℕ) → Members → Bool
+are_in_order [] no_members = true
+are_in_order [] (member k j ms) = false
+are_in_order (name ∷ names) no_members = false
+are_in_order (name ∷ names) (member k j ms) = bytes_eq k name && are_in_order names ms

@@ -5,7 +5,7 @@ ghost use Rattle.json.specs.Json.{Json};
 ghost use Rattle.json.specs.Json as spec;
 ghost use Rattle.json.specs.Find.{BeginsWith, InMembers, Finds};
 ghost use Rattle.json_nodes.specs.Fields.{is_among};
-ghost use Rattle.json_nodes.specs.Written.{last_value, only_field, are_among};
+ghost use Rattle.json_nodes.specs.Written.{last_value, only_field, are_among, are_in_order};
 
 use json::{Element, Members};
 
@@ -72,6 +72,25 @@ pub(crate) fn are_among(members: Members<'_, '_>, names: &[&str]) -> bool
         }
     }
     true
+}
+
+/// Whether the names of the fields are these, in this order, and no other field comes.
+pub(crate) fn are_in_order(members: Members<'_, '_>, names: &[&str]) -> bool
+    ensures { (ms : spec.Members) → InMembers members.entry ms
+        → result ≡ are_in_order (map (λ n. n.now) names.now) ms }
+{
+    let mut rest = members;
+    for name in names {
+        match rest.next() {
+            Some((key, _)) => {
+                if key != *name {
+                    return false;
+                }
+            }
+            None => return false,
+        }
+    }
+    rest.next().is_none()
 }
 
 /// The lesser of two names, by their bytes.

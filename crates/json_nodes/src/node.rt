@@ -1,12 +1,12 @@
 //! A value of a text.
 
-ghost use Rattle.std.specs.Prelude.{◌≡◌, map, is_some, option_map, option_and_then};
+ghost use Rattle.std.specs.Prelude.{◌≡◌, IsTrue, true, map, is_some, option_map, option_and_then};
 ghost use Rattle.serde_json.specs.Find.{as_null, as_bool, as_number, as_str, as_array, as_object, as_u64, as_i64, to_float, get};
 ghost use Rattle.json_nodes.specs.Nodes.{data_of, items_of};
 ghost use Rattle.json_nodes.specs.Numbers.{num_of};
-ghost use Rattle.json_nodes.specs.Fields.{only_of, has_no_other};
+ghost use Rattle.json_nodes.specs.Fields.{only_of, has_no_other, has_fields};
 
-use crate::fields::{are_among, least_other, only_field};
+use crate::fields::{are_among, are_in_order, least_other, only_field};
 use crate::items::Items;
 use crate::number::Number;
 use json::Element;
@@ -154,6 +154,19 @@ impl<'v> Node<'v> {
     {
         match self.element.members() {
             Some(members) => are_among(members, names),
+            None => false,
+        }
+    }
+
+    /// Whether it is an object whose fields stand in the text in this order, each once, and no other. A no says nothing: it may
+    /// be an object with these fields in another order.
+    #[inline]
+    pub fn has_in_order(&self, names: &[&str]) -> bool
+        ensures no_other { IsTrue result → has_no_other (map (λ n. n.now) names.now) (data_of self.now) ≡ true }
+        ensures each { IsTrue result → has_fields (map (λ n. n.now) names.now) (data_of self.now) ≡ true }
+    {
+        match self.element.members() {
+            Some(members) => are_in_order(members, names),
             None => false,
         }
     }

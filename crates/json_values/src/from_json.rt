@@ -69,7 +69,7 @@ fn has_each(value: &Node, names: &[&'static str]) -> bool
 fn has_only(value: &Node, names: &[&'static str]) -> bool
     ensures { result ≡ has_only (texts_of names.now) (data_of value.now) }
 {
-    value.has_no_other(names) && has_each(value, names)
+    value.has_in_order(names) || value.has_no_other(names) && has_each(value, names)
 }
 
 /// A value that is to be read, and the name of the variant that holds it, where one does.
