@@ -8,7 +8,8 @@ use Rattle.serde_json.specs.Find.{get}
 use Rattle.json_expressions.specs.declared.expressions.Parts.{Parts}
 use Rattle.json_expressions.specs.declared.forms.Field.{Field}
 use Rattle.json_expressions.specs.declared.forms.Piece.{Piece}
-use Rattle.json_values.specs.Form.{given, has_each}
+use Rattle.json_nodes.specs.Fields.{has_each}
+use Rattle.json_values.specs.Form.{given}
 use Rattle.json_values.specs.Reads.{rows_of, texts_of}
 use Rattle.json_expressions.specs.Forms.{names_in, parts_from, piece_of, with_piece}
 

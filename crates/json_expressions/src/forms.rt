@@ -4,7 +4,8 @@ ghost use Rattle.std.specs.Prelude.{◌≡◌, ◌≤◌, Some, OnOk, length, op
 ghost use Rattle.serde_json.specs.Find.{as_bool};
 ghost use Rattle.json_nodes.specs.Fields.{has_no_other};
 ghost use Rattle.json_nodes.specs.Nodes.{data_of, items_of};
-ghost use Rattle.json_values.specs.Form.{has_each, named};
+ghost use Rattle.json_nodes.specs.Fields.{has_each};
+ghost use Rattle.json_values.specs.Form.{named};
 ghost use Rattle.json_values.specs.ReadNumbers.{u32_of};
 ghost use Rattle.json_values.specs.Reads.{ReadsMeaning, rows_of};
 ghost use Rattle.json_expressions.specs.FormNames.{names_of};

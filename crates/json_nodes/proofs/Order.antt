@@ -7,7 +7,7 @@ use Rattle.json.specs.Find as find
 use Rattle.serde_json.specs.Data.{Data, Members, no_members, object}
 use Rattle.serde_json.specs.Find.{get, get_member}
 use Rattle.serde_json.specs.Read.{of_json, of_members}
-use Rattle.json_nodes.specs.Fields.{is_among, has_no_other, has_fields}
+use Rattle.json_nodes.specs.Fields.{is_among, has_no_other, has_each}
 use Rattle.json_nodes.specs.Written.{are_in_order}
 use Rattle.json_nodes.proofs.Members.{get_kept, some_kept, json_names_among, names_kept}
 use Rattle.json_nodes.proofs.Values.{by_kind}
@@ -33,14 +33,14 @@ comes_later None p e = absurd (false≢true e)
 comes_later (Some i) p e = refl
 
 -- each name is there; what the members have, d has
-in_order_each : (names : List (List ℕ)) (ms : json.Members) (d : Data) → are_in_order names ms ≡ true → ((k : List ℕ) → is_some (find.get_member k ms) ≡ true → is_some (get k d) ≡ true) → has_fields names d ≡ true
+in_order_each : (names : List (List ℕ)) (ms : json.Members) (d : Data) → are_in_order names ms ≡ true → ((k : List ℕ) → is_some (find.get_member k ms) ≡ true → is_some (get k d) ≡ true) → has_each names d ≡ true
 in_order_each [] ms d h up = refl
 in_order_each (name ∷ names) json.no_members d h up = absurd (false≢true h)
 in_order_each (name ∷ names) (json.member k j ms) d h up =
     let parts = and_parts (bytes_eq k name) (are_in_order names ms) h in
     let here = up name (comes_here (find.get_member name ms) (bytes_eq k name) j parts.0) in
     let rest = in_order_each names ms d parts.1 (λ l e. up l (comes_later (find.get_member l ms) (cond (bytes_eq k l) (Some j) None) e)) in
-    and_from (is_some (get name d)) (has_fields names d) here rest
+    and_from (is_some (get name d)) (has_each names d) here rest
 
 -- a name of the text is one of the data
 module _ (k : List ℕ) (ms : json.Members) (ds : Members) (e : of_members ms no_members ≡ Some ds) where
@@ -54,7 +54,7 @@ is_in_order names j = option_map_or (are_in_order names) (find.as_object j) fals
 
 -- what its data then has
 abbrev pub HasThese : List (List ℕ) → Data → Type 0
-HasThese names d = (has_no_other names d ≡ true) × (has_fields names d ≡ true)
+HasThese names d = (has_no_other names d ≡ true) × (has_each names d ≡ true)
 
 pub in_order_kept : (names : List (List ℕ)) (j : json.Json) (d : Data) → of_json j ≡ Some d → is_in_order names j ≡ true → HasThese names d
 in_order_kept names =

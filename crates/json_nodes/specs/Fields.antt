@@ -26,6 +26,6 @@ abbrev pub has_no_other : List (List ℕ) → Data → Bool
 has_no_other names d = option_map_or (names_among names) (as_object d) false
 
 -- whether each of these is the name of a field
-abbrev pub has_fields : List (List ℕ) → Data → Bool
-has_fields [] d = true
-has_fields (name ∷ names) d = is_some (get name d) && has_fields names d
+abbrev pub has_each : List (List ℕ) → Data → Bool
+has_each [] d = true
+has_each (name ∷ names) d = is_some (get name d) && has_each names d

@@ -9,7 +9,7 @@ ghost use Rattle.json_nodes.specs.Written.{last_value, only_field, are_among, ar
 
 use json::{Element, Members};
 
-/// The last value of a name, where no other name comes behind its first value.
+/// The last value of a name, where no other name comes after its first value.
 #[inline]
 fn last_value<'v>(
     name: &str,

@@ -4,7 +4,7 @@ ghost use Rattle.std.specs.Prelude.{◌≡◌, IsTrue, true, map, is_some, optio
 ghost use Rattle.serde_json.specs.Find.{as_null, as_bool, as_number, as_str, as_array, as_object, as_u64, as_i64, to_float, get};
 ghost use Rattle.json_nodes.specs.Nodes.{data_of, items_of};
 ghost use Rattle.json_nodes.specs.Numbers.{num_of};
-ghost use Rattle.json_nodes.specs.Fields.{only_of, has_no_other, has_fields};
+ghost use Rattle.json_nodes.specs.Fields.{only_of, has_no_other, has_each};
 
 use crate::fields::{are_among, are_in_order, least_other, only_field};
 use crate::items::Items;
@@ -163,7 +163,7 @@ impl<'v> Node<'v> {
     #[inline]
     pub fn has_in_order(&self, names: &[&str]) -> bool
         ensures no_other { IsTrue result → has_no_other (map (λ n. n.now) names.now) (data_of self.now) ≡ true }
-        ensures each { IsTrue result → has_fields (map (λ n. n.now) names.now) (data_of self.now) ≡ true }
+        ensures each { IsTrue result → has_each (map (λ n. n.now) names.now) (data_of self.now) ≡ true }
     {
         match self.element.members() {
             Some(members) => are_in_order(members, names),

@@ -75,7 +75,7 @@ fn positive(text: &[u8]) -> Option<Number>
     }
 }
 
-/// The number of a text behind its minus.
+/// The number of a text after its minus.
 fn negative(text: &[u8]) -> Option<Number>
     ensures { option_map num_of result ≡ number_from true (scan text.now) }
 {

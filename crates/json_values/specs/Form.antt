@@ -3,7 +3,7 @@ use Rattle.std.specs.Prelude.{ℕ, ◌&&◌, List, [], ◌∷◌, Bool, true, Op
 use Rattle.std.specs.Str.{bytes_eq}
 use Rattle.serde_json.specs.Data.{Data, Items, no_items, item}
 use Rattle.serde_json.specs.Find.{get, as_array, as_object, as_str, as_null}
-use Rattle.json_nodes.specs.Fields.{only_of, has_no_other}
+use Rattle.json_nodes.specs.Fields.{only_of, has_no_other, has_each}
 
 -- what follows from a value, if there is one
 abbrev pub given : {A B : Type 0} → Option A → (A → Option B) → Option B
@@ -12,11 +12,6 @@ given o f = option_and_then f o
 -- whether it is an object with this field
 abbrev pub has_field : List ℕ → Data → Bool
 has_field name d = is_some (get name d)
-
--- whether each of these is a field
-abbrev pub has_each : List (List ℕ) → Data → Bool
-has_each [] d = true
-has_each (name ∷ names) d = has_field name d && has_each names d
 
 -- whether it is an object with exactly these fields
 abbrev pub has_only : List (List ℕ) → Data → Bool

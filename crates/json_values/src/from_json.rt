@@ -2,9 +2,10 @@
 
 ghost use Rattle.std.specs.Prelude.{◌≡◌, is_some};
 ghost use Rattle.serde_json.specs.Find.{get};
+ghost use Rattle.json_nodes.specs.Fields.{has_each};
 ghost use Rattle.json_nodes.specs.Nodes.{data_of};
 ghost use Rattle.json_values.specs.Failures.{IsUnreadable};
-ghost use Rattle.json_values.specs.Form.{field_of, has_field, has_each, has_only, one_field, two_fields, three_fields, four_fields, five_fields, six_fields, eight_fields};
+ghost use Rattle.json_values.specs.Form.{field_of, has_field, has_only, one_field, two_fields, three_fields, four_fields, five_fields, six_fields, eight_fields};
 ghost use Rattle.json_values.specs.Reads.{ReadsMeaning, ReadsAs, texts_of};
 ghost use Rattle.json_values.specs.ReadsFields.{ReadsFields, ReadsTwo, ReadsThree, ReadsFour};
 

@@ -1,6 +1,6 @@
 use Rattle.std.proofs.Common.{◌≡◌, drop}
 use Rattle.json_nodes.specs.Nodes.{data_of}
-use Rattle.json_values.specs.Form.{has_each}
+use Rattle.json_nodes.specs.Fields.{has_each}
 use Rattle.json_values.specs.Reads.{texts_of}
 use Rattle.json_values.proofs.from_json.has_each.Given as goal
 
