@@ -3,10 +3,9 @@
 //! The bad body stores a value before it is in scope.
 #![tactic(auto)]
 
-ghost use Rattle.std.specs.Prelude.{ℕ, ◌≡◌, OnOk, Some, slice_get};
-ghost use Rattle.ir_module.specs.declared.module.EntryPoint.{EntryPoint};
+ghost use Rattle.std.specs.Prelude.{OnOk};
 ghost use Rattle.ir_statements.specs.declared.statements.Statement.{Statement};
-ghost use Rattle.naga_module.specs.{RunsAreSure, body_of, pre_emitted_of};
+ghost use Rattle.naga_module.specs.{EntryPointsAreSound};
 
 use bitflags::Flags;
 use naga_below::{
@@ -200,8 +199,7 @@ fn given(alloc: Global) -> Result<Given, AllocError> {
 /// Judges a module over these facts: its infos, or its first fault. All runs of the body of each entry point that is
 /// accepted are sure: what they use is live.
 fn judge(alloc: Global, module: &Module) -> Result<ModuleInfo, ModuleFault>
-    ensures { OnOk result ((k : ℕ) (ep : EntryPoint) → slice_get «module».now.entry_points k ≡ Some ep →
-        RunsAreSure (pre_emitted_of ep.function) (body_of ep.function)) }
+    ensures { OnOk result (EntryPointsAreSound «module».now) }
 {
     let below = Recorded {
         facts: facts(alloc)?,

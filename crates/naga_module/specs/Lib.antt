@@ -27,7 +27,8 @@ pub use Rattle.naga_module.specs.ModuleInfos.{infos_before, OfFunctions, OfEntry
 pub use Rattle.ir_misfits.specs.declared.misfit.Misfit.{Misfit}
 pub use Rattle.naga_module.specs.Misfits.{module_points, AllFits}
 pub use Rattle.naga_module.specs.ModuleJudgement.{Fits, IsJudgement, IsJudgementOrMemory}
-pub use Rattle.naga_module.specs.ModuleLaw.{IsSoundFunction, ModuleHolds, ModuleFillsOnce, ModuleBindsApart}
+pub use Rattle.naga_module.specs.ModuleLaw.{IsSoundFunction, FunctionsAreSound, EntryPointsAreSound}
+pub use Rattle.naga_module.specs.ModuleLaw.{ModuleHolds, ModuleFillsOnce, ModuleBindsApart}
 pub use Rattle.naga_module.specs.ModuleLaw.{AcceptedModuleIsJudged, AcceptedModuleHolds, AcceptedModuleFillsOnce}
 pub use Rattle.naga_module.specs.ModuleLaw.{AcceptedModuleBindsApart, IsReportedOfFunctions, FunctionsAloneAreReported}
 pub use Rattle.naga_module.specs.OneJudgement.{IsSameFault, IsSameAnswer, ModuleHasOneJudgement}

@@ -28,14 +28,22 @@ use Rattle.check_faults.specs.declared.module.ModuleFault.TheVariants as fault
 abbrev pub IsSoundFunction : Function → Type 0
 IsSoundFunction f = RunsAreSure (pre_emitted_of f) (body_of f)
 
+-- of the bodies of all functions of a module
+abbrev pub FunctionsAreSound : Module → Type 0
+FunctionsAreSound m = (k : ℕ) (f : Function) → slice_get m.functions k ≡ Some f → IsSoundFunction f
+
+-- of the bodies of all its entry points
+abbrev pub EntryPointsAreSound : Module → Type 0
+EntryPointsAreSound m = (k : ℕ) (p : EntryPoint) → slice_get m.entry_points k ≡ Some p → IsSoundFunction p.function
+
 -- Of a module that was accepted with these infos, where bodies are checked: all runs of the body of each function and of each
 -- entry point are sound; each entry point keeps to its stage through all chains of calls; no Return stands in a continuing part;
 -- each Switch has whole cases; and the stages of each info are stages of each statement of its body, at any depth, and of each
 -- function that it calls.
 pub record ModuleHolds (below : Meaning) (settings : Settings) (types : List TypeInfo) (m : Module) (infos : ModuleInfo)
     : Type 0 where
-  pub functions : (k : ℕ) (f : Function) → slice_get m.functions k ≡ Some f → IsSoundFunction f
-  pub entry_points : (k : ℕ) (p : EntryPoint) → slice_get m.entry_points k ≡ Some p → IsSoundFunction p.function
+  pub functions : FunctionsAreSound m
+  pub entry_points : EntryPointsAreSound m
   pub stages : (k : ℕ) (p : EntryPoint) → slice_get m.entry_points k ≡ Some p →
       ChainsKeepTo below settings types m (infos_before k infos) p.function (only p.stage)
   pub returns : (k : ℕ) (f : Function) → slice_get m.functions k ≡ Some f → HasNoReturnInContinuing (body_of f)
