@@ -2,7 +2,7 @@
 
 ghost use Rattle.std.specs.Prelude.{◌≡◌};
 ghost use Rattle.std.specs.Option.{option_copied};
-ghost use Rattle.layer_expressions.specs.OperandTypes.{type_of_operand, shape_of_operand, arguments_of};
+ghost use Rattle.layer_expressions.specs.OperandTypes.{type_of_operand, shape_of_operand, arguments_of, two_of, three_of, four_of};
 
 use ir_arena::handle::Handle;
 use ir_arena::tag;
@@ -48,6 +48,30 @@ pub(crate) fn shape_of_operand(
     }
 }
 
+/// Two shapes, where both are there.
+fn two_of(a: Option<Shape>, b: Option<Shape>) -> Option<Arguments>
+    ensures { result ≡ two_of a b }
+{
+    Some(Arguments::Two(a?, b?))
+}
+
+fn three_of(a: Option<Shape>, b: Option<Shape>, c: Option<Shape>) -> Option<Arguments>
+    ensures { result ≡ three_of a b c }
+{
+    Some(Arguments::Three(a?, b?, c?))
+}
+
+fn four_of(
+    a: Option<Shape>,
+    b: Option<Shape>,
+    c: Option<Shape>,
+    d: Option<Shape>,
+) -> Option<Arguments>
+    ensures { result ≡ four_of a b c d }
+{
+    Some(Arguments::Four(a?, b?, c?, d?))
+}
+
 /// The shapes of all operands, where each has one.
 pub(crate) fn arguments_of(
     types: &[Type],
@@ -58,24 +82,21 @@ pub(crate) fn arguments_of(
 {
     match operands {
         [a] => Some(Arguments::One(shape_of_operand(types, earlier, *a)?)),
-        [a, b] => {
-            let a = shape_of_operand(types, earlier, *a)?;
-            let b = shape_of_operand(types, earlier, *b)?;
-            Some(Arguments::Two(a, b))
-        }
-        [a, b, c] => {
-            let a = shape_of_operand(types, earlier, *a)?;
-            let b = shape_of_operand(types, earlier, *b)?;
-            let c = shape_of_operand(types, earlier, *c)?;
-            Some(Arguments::Three(a, b, c))
-        }
-        [a, b, c, d] => {
-            let a = shape_of_operand(types, earlier, *a)?;
-            let b = shape_of_operand(types, earlier, *b)?;
-            let c = shape_of_operand(types, earlier, *c)?;
-            let d = shape_of_operand(types, earlier, *d)?;
-            Some(Arguments::Four(a, b, c, d))
-        }
+        [a, b] => two_of(
+            shape_of_operand(types, earlier, *a),
+            shape_of_operand(types, earlier, *b),
+        ),
+        [a, b, c] => three_of(
+            shape_of_operand(types, earlier, *a),
+            shape_of_operand(types, earlier, *b),
+            shape_of_operand(types, earlier, *c),
+        ),
+        [a, b, c, d] => four_of(
+            shape_of_operand(types, earlier, *a),
+            shape_of_operand(types, earlier, *b),
+            shape_of_operand(types, earlier, *c),
+            shape_of_operand(types, earlier, *d),
+        ),
         _ => None,
     }
 }

@@ -1,7 +1,7 @@
 //! The types of array lengths and of cooperative operations.
 
 ghost use Rattle.std.specs.Prelude.{◌≡◌};
-ghost use Rattle.std.specs.Option.{option_copied};
+ghost use Rattle.std.specs.Option.{option_copied, is_some};
 ghost use Rattle.layer_expressions.specs.Others.{is_dynamic, has_length, length_type, scalar_behind, scalar_alone, cooperative_load, cooperative_of, multiply_add};
 
 use crate::operands::type_of_operand;
@@ -125,6 +125,13 @@ fn cooperative_of(inner: Option<&TypeInner>) -> Option<TypeResolution>
     }
 }
 
+/// Whether a type is a cooperative matrix.
+fn is_cooperative(inner: Option<&TypeInner>) -> bool
+    ensures { result ≡ is_some (cooperative_of (option_copied inner.entry)) }
+{
+    matches!(inner, Some(TypeInner::CooperativeMatrix { .. }))
+}
+
 /// The type of a `CooperativeMultiplyAdd`.
 pub(crate) fn multiply_add(
     types: &[Type],
@@ -135,13 +142,13 @@ pub(crate) fn multiply_add(
 {
     match operands {
         [a, b, c] => {
-            let first = cooperative_of(type_of_operand(types, earlier, *a));
-            let second = cooperative_of(type_of_operand(types, earlier, *b));
-            let third = cooperative_of(type_of_operand(types, earlier, *c));
-            if first.is_none() || second.is_none() {
+            if !is_cooperative(type_of_operand(types, earlier, *a)) {
                 return Err(Rule::Cooperative);
             }
-            match third {
+            if !is_cooperative(type_of_operand(types, earlier, *b)) {
+                return Err(Rule::Cooperative);
+            }
+            match cooperative_of(type_of_operand(types, earlier, *c)) {
                 Some(ty) => Ok(ty),
                 None => Err(Rule::Cooperative),
             }
