@@ -17,7 +17,7 @@ pub enum Bench {
 
 impl Bench {
     /// The bench that a word names.
-    pub fn named(word: &[u8]) -> Option<Bench>
+    pub(crate) fn named(word: &[u8]) -> Option<Bench>
         ensures { result ≡ bench_of word.now }
     {
         if word == b"P".as_slice() {

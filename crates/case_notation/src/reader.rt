@@ -9,7 +9,7 @@ ghost use Rattle.case_notation.specs.Scanning.{SayBody};
 ghost use Rattle.case_notation.specs.Words.{IsPrintable, words_of};
 
 mod closing;
-pub mod parts;
+mod parts;
 mod stack;
 
 use crate::bench::Bench;

@@ -197,7 +197,7 @@ fn given(alloc: Global) -> Result<Given, AllocError> {
 }
 
 /// Judges a module over these facts: its infos, or its first fault. All runs of the body of each entry point that is
-/// accepted are sure: what they use is live.
+/// accepted are sound: what they use is live.
 fn judge(alloc: Global, module: &Module) -> Result<ModuleInfo, ModuleFault>
     ensures { OnOk result (EntryPointsAreSound «module».now) }
 {

@@ -1,5 +1,5 @@
 //! What is known of a module before its functions are checked, and the trait `Below` of the lower layer that answers it.
-//! It holds kinds of expressions, infos of types and functions, settings, and the facts that a document gives.
+//! It holds kinds of expressions, infos of functions, settings, and the facts that a document gives.
 //! Users import these from `naga_below`, `naga_rules` and `naga_layers`.
 #![tactic(auto)]
 

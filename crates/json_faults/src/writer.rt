@@ -124,7 +124,7 @@ impl JsonWriter {
     }
 
     /// Writes null.
-    pub fn null(&mut self) -> Result<(), AllocError>
+    pub(crate) fn null(&mut self) -> Result<(), AllocError>
         ensures { Writes result self.old self.new null }
     {
         self.writer.null()

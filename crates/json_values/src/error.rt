@@ -34,7 +34,7 @@ impl ReadError {
     }
 
     /// The same of a text that was made for it.
-    pub fn told(alloc: Global, expected: String) -> Self {
+    pub(crate) fn told(alloc: Global, expected: String) -> Self {
         ReadError::Unreadable(Unreadable {
             expected,
             steps: Vec::new(alloc),

@@ -55,12 +55,14 @@ fn two_of(a: Option<Shape>, b: Option<Shape>) -> Option<Arguments>
     Some(Arguments::Two(a?, b?))
 }
 
+/// The same of three.
 fn three_of(a: Option<Shape>, b: Option<Shape>, c: Option<Shape>) -> Option<Arguments>
     ensures { result ≡ three_of a b c }
 {
     Some(Arguments::Three(a?, b?, c?))
 }
 
+/// The same of four.
 fn four_of(
     a: Option<Shape>,
     b: Option<Shape>,

@@ -28,3 +28,20 @@ pub use Rattle.ir_leaves.specs.declared.stage.ShaderStage.TheVariants.{Vertex}
 pub use Rattle.ir_types.specs.TypeTests.{SameIsDecided, EquivalentIsDecided, ExchangeStructIsDecided, ScalarIsDecided}
 pub use Rattle.ir_types.specs.TypeTests.{ScalarMemberIsDecided}
 pub use Rattle.ir_types.specs.Types.{NameEachOther, access_of}
+pub use Rattle.ir_arena.specs.Limits.{max_len}
+pub use Rattle.ir_errors.specs.Names.{expression_error_name}
+pub use Rattle.ir_facts.specs.Infos.{empty_info, with_global_use}
+pub use Rattle.ir_facts.specs.declared.proc.expression_kinds.ExpressionKind.{ExpressionKind}
+pub use Rattle.ir_flags.specs.Bits.{contains}
+pub use Rattle.ir_module.specs.Empty.{empty_function, empty_module}
+pub use Rattle.ir_module.specs.Operands.{access_base}
+pub use Rattle.ir_module.specs.PreEmitted.{needs_pre_emit}
+pub use Rattle.ir_statements.specs.Blocks.{empty_block, with_last}
+pub use Rattle.ir_statements.specs.Operations.{is_min_or_max}
+pub use Rattle.ir_statements.specs.Subgroups.{gather_group, operation_group}
+pub use Rattle.ir_types.specs.Members.{HasNoMembers}
+pub use Rattle.ir_types.specs.SpaceTests.{is_immediate, is_storage, is_task_payload, is_work_group}
+pub use Rattle.ir_types.specs.TypeTests.{is_equivalent, is_exchange_struct}
+pub use Rattle.ir_types.specs.Types.{NamesTypesBelow, image_coordinates_of, pointer_base_of, pointer_space_of}
+pub use Rattle.ir_types.specs.Types.{resolved, scalar_kind_of, scalar_of, value_pointer_of}
+pub use Rattle.ir_types.specs.Unique.{AreDistinct}

@@ -7,3 +7,4 @@ pub mod Recorded
 pub mod Typed
 pub use Rattle.layer_types.specs.ComputedInfos.{infos_from}
 pub use Rattle.layer_expressions.specs.ComputedTypes.{global_types}
+pub use Rattle.layer_expressions.specs.RuleNumbers.{number_of}

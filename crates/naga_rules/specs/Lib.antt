@@ -9,3 +9,6 @@ pub use Rattle.check_varyings.specs.VaryingFaults.{VaryingFault, varying_fault_o
 pub use Rattle.check_varyings.specs.Varyings.{points_from, parts_of, seen_in, seen_with, nothing_seen, without_built_ins}
 pub use Rattle.check_varyings.specs.Varyings.{StartsEmpty, PointsAreByPosition, LeavesTheNext, SeesLocationsAlone}
 pub use Rattle.ir_facts.specs.Fits.{MemberCountFits}
+pub use Rattle.check_varyings.specs.DistinctVaryings.{AcceptedHasNoLocationTwice, AcceptedHasNoBuiltInTwice}
+pub use Rattle.ir_errors.specs.Names.{atomic_error_name, call_error_name, function_error_name, global_error_name}
+pub use Rattle.ir_errors.specs.Names.{local_error_name, subgroup_error_name, varying_error_name}

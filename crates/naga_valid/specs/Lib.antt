@@ -33,3 +33,4 @@ pub use Rattle.check_entry.specs.EntryFaults.{fault_of}
 pub use Rattle.check_laws.specs.Chains.{NoneIsVetted, OneMoreIsVetted, CallsOfFittingAreBelow}
 pub use Rattle.check_laws.specs.FunctionRefusals.{RefusedUseIsWitnessed, RefusedJumpIsStuck}
 pub use Rattle.check_statement.specs.ValidatorParts.{ValidatorParts, first_settings, no_traces}
+pub use Rattle.check_faults.specs.EntryErrorNames.{entry_error_name}

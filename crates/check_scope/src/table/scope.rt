@@ -74,7 +74,7 @@ impl ScopeColumn {
     }
 
     /// Whether the scope of a number is open.
-    pub fn is_open(&self, number: usize) -> bool
+    pub(crate) fn is_open(&self, number: usize) -> bool
         ensures { IsTrue result → (shown self.now).state number ≡ Open }
     {
         match self.states.as_slice().get(number) {
