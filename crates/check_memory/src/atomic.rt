@@ -104,7 +104,7 @@ fn check_atomic(
 }
 
 /// The scalar of the atomic that an expression points to.
-pub(crate) fn atomic_scalar(
+pub(crate) fn atomic_scalar_at(
     context: &BlockContext,
     pointer: Handle<tag::Expression>,
 ) -> Option<Scalar>

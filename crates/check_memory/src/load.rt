@@ -9,7 +9,7 @@ ghost use Rattle.check_scope.specs.walk.Place.{place_at};
 ghost use Rattle.check_scope.specs.walk.SeenContext.{context_of};
 ghost use Rattle.check_scope.specs.walk.Table.{HasPut, count, known};
 
-use crate::atomic::atomic_scalar;
+use crate::atomic::atomic_scalar_at;
 use check_scope::context::BlockContext;
 use check_scope::pointers::space;
 use check_scope::refuse::{answer, check_put, check_use};
@@ -110,7 +110,7 @@ fn points_to(
     if is_equivalent(program, context.type_inner(pointer), Some(&expected)) {
         return true;
     }
-    match atomic_scalar(context, pointer) {
+    match atomic_scalar_at(context, pointer) {
         Some(scalar) => is_scalar(scalar, Some(&program.types[ty].inner)),
         None => false,
     }

@@ -55,20 +55,23 @@ pub(crate) fn image_fault(statement: ImageStatement, error: ExpressionError) -> 
 }
 
 /// The type of the global that an image is, or of which it is an element.
-pub(crate) fn image_global(
+pub(crate) fn image_global_at(
     context: &BlockContext,
     image: Handle<tag::Expression>,
 ) -> Option<Handle<tag::Type>>
     ensures { result ≡ image_global_at (context_of context.now) image }
 {
     match access_base_in(context.expression(image)) {
-        Some(base) => global_type(context, base),
-        None => global_type(context, image),
+        Some(base) => global_type_at(context, base),
+        None => global_type_at(context, image),
     }
 }
 
 /// The type that the global is declared with which an expression is.
-fn global_type(context: &BlockContext, handle: Handle<tag::Expression>) -> Option<Handle<tag::Type>>
+fn global_type_at(
+    context: &BlockContext,
+    handle: Handle<tag::Expression>,
+) -> Option<Handle<tag::Type>>
     ensures { result ≡ global_type_at (context_of context.now) handle }
 {
     let Some(Expression::GlobalVariable(global)) = context.expression(handle) else {

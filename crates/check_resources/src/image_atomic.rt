@@ -11,7 +11,7 @@ ghost use Rattle.check_scope.specs.walk.Place.{place_at};
 ghost use Rattle.check_scope.specs.walk.SeenContext.{context_of};
 ghost use Rattle.check_scope.specs.walk.Table.{known};
 
-use crate::image::{ImageShape, ImageStatement, Texel, check_texel, image_global};
+use crate::image::{ImageShape, ImageStatement, Texel, check_texel, image_global_at};
 use check_scope::context::BlockContext;
 use check_scope::refuse::{answer, check_use};
 use check_scope::table::ScopeColumn;
@@ -67,7 +67,7 @@ fn check_image_atomic_points(
     ensures { Finds (FirstOf (image_atomic_points (context_of context.now) (place_at (known scope.now)) image
         operation.texel.coordinate operation.texel.array_index operation.fun operation.value)) result }
 {
-    let Some(ty) = image_global(context, image) else {
+    let Some(ty) = image_global_at(context, image) else {
         let error = ExpressionError::ExpectedGlobalVariable;
         return Err(FunctionError::InvalidImageAtomic(error));
     };

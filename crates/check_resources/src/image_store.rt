@@ -13,7 +13,7 @@ ghost use Rattle.check_scope.specs.walk.SeenContext.{context_of};
 ghost use Rattle.check_scope.specs.ExpressionTypes.{type_at};
 ghost use Rattle.check_scope.specs.walk.Table.{known};
 
-use crate::image::{ImageShape, ImageStatement, Texel, check_texel, element_of, image_global};
+use crate::image::{ImageShape, ImageStatement, Texel, check_texel, element_of, image_global_at};
 use check_scope::context::BlockContext;
 use check_scope::refuse::{answer, check_use};
 use check_scope::roots::access_base_in;
@@ -79,7 +79,7 @@ fn check_stored_texel(
         texel.coordinate texel.array_index)) result }
     ensures format { IfOk result (λ format. format ≡ stored_format (stored_shape (context_of context.now) image).class) }
 {
-    let Some(ty) = image_global(context, image) else {
+    let Some(ty) = image_global_at(context, image) else {
         let error = ExpressionError::ExpectedGlobalVariable;
         return Err(FunctionError::InvalidImageStore(error));
     };

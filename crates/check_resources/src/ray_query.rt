@@ -62,7 +62,7 @@ fn check_ray_query(
     ensures { Finds (FirstOf (ray_query_points (context_of context.now) (place_at (known scope.now)) query
         fun.now)) result }
 {
-    let Some(ty) = local_type(context, query) else {
+    let Some(ty) = local_type_at(context, query) else {
         return Err(FunctionError::InvalidRayQueryExpression(query));
     };
     let Some(vertex_return) = query_flag_of(inner_at(context.program.types.as_slice(), ty)) else {
@@ -72,7 +72,10 @@ fn check_ray_query(
 }
 
 /// The type that the local is declared with which an expression is.
-fn local_type(context: &BlockContext, handle: Handle<tag::Expression>) -> Option<Handle<tag::Type>>
+fn local_type_at(
+    context: &BlockContext,
+    handle: Handle<tag::Expression>,
+) -> Option<Handle<tag::Type>>
     ensures { result ≡ local_type_at (context_of context.now) handle }
 {
     match context.expression(handle) {

@@ -12,7 +12,7 @@ use ir_flags::valid::ShaderStages;
 use ir_statements::statements::{Located, Statement};
 
 /// The stages that a statement may run in.
-pub(crate) fn stages_of(context: &BlockContext, located: &Located) -> ShaderStages
+pub(crate) fn stages_in(context: &BlockContext, located: &Located) -> ShaderStages
     ensures { result ≡ stages_in (context_of context.now) (tree_of (context_of context.now) located.now) }
 {
     match &located.statement {

@@ -10,7 +10,7 @@ ghost use Rattle.check_scope.specs.walk.SeenContext.{context_of};
 ghost use Rattle.check_statement.specs.walk.State.{kept, with_result, with_statement};
 ghost use Rattle.check_scope.specs.walk.Table.{KnowsResults, filled_in, marked};
 
-use crate::stages::stages_of;
+use crate::stages::stages_in;
 use bitflags::Flags;
 use check_resources::ray_trace::advance_trace;
 use check_scope::context::BlockContext;
@@ -91,6 +91,6 @@ pub fn advance(
     ensures count { marked filled.new ≡ marked filled.old }
 {
     fill_named(filled, &result_of(located));
-    state.stages = state.stages.intersection(stages_of(context, located));
+    state.stages = state.stages.intersection(stages_in(context, located));
     advance_trace(&mut state.trace, context, located);
 }

@@ -194,7 +194,7 @@ fn is_visible(built_in: Bi, place: &VaryingPlace) -> bool
             is_input(place, &[St::Fragment, St::AnyHit, St::ClosestHit])
                 || is_output(place, &[St::Mesh]) && is_primitive_output(place)
         }
-        Bi::SampleMask => is_at(place, &[St::Fragment]),
+        Bi::SampleMask => is_at_one_of(place, &[St::Fragment]),
         Bi::LocalInvocationIndex
         | Bi::GlobalInvocationId
         | Bi::LocalInvocationId
@@ -204,12 +204,12 @@ fn is_visible(built_in: Bi, place: &VaryingPlace) -> bool
         | Bi::NumSubgroups
         | Bi::SubgroupId => is_input(place, &[St::Compute, St::Task, St::Mesh]),
         Bi::SubgroupSize | Bi::SubgroupInvocationId => {
-            !is_at(place, &[St::Vertex]) && !place.output
+            !is_at_one_of(place, &[St::Vertex]) && !place.output
         }
         Bi::CullPrimitive | Bi::PointIndex | Bi::LineIndices | Bi::TriangleIndices =>
             is_primitive_output(place),
         Bi::MeshTaskSize => is_output(place, &[St::Task]),
-        Bi::RayInvocationId | Bi::NumRayInvocations => is_at(
+        Bi::RayInvocationId | Bi::NumRayInvocations => is_at_one_of(
             place,
             &[St::RayGeneration, St::AnyHit, St::ClosestHit, St::Miss],
         ),
@@ -219,17 +219,15 @@ fn is_visible(built_in: Bi, place: &VaryingPlace) -> bool
         | Bi::ObjectRayOrigin
         | Bi::ObjectRayDirection
         | Bi::ObjectToWorld
-        | Bi::WorldToObject => is_at(place, &[St::AnyHit, St::ClosestHit]),
-        Bi::WorldRayOrigin | Bi::WorldRayDirection | Bi::RayTmin | Bi::RayTCurrentMax => is_at(
-            place,
-            &[St::AnyHit, St::ClosestHit, St::Miss],
-        ),
+        | Bi::WorldToObject => is_at_one_of(place, &[St::AnyHit, St::ClosestHit]),
+        Bi::WorldRayOrigin | Bi::WorldRayDirection | Bi::RayTmin | Bi::RayTCurrentMax =>
+            is_at_one_of(place, &[St::AnyHit, St::ClosestHit, St::Miss]),
         Bi::VertexCount | Bi::PrimitiveCount | Bi::Vertices | Bi::Primitives => false,
     }
 }
 
 /// Whether the place is at one of these stages, in whatever direction.
-fn is_at(place: &VaryingPlace, stages: &[St]) -> bool
+fn is_at_one_of(place: &VaryingPlace, stages: &[St]) -> bool
     ensures { result ≡ is_one_of stages.now place.now.stage }
 {
     stages.contains(&place.stage)
@@ -239,14 +237,14 @@ fn is_at(place: &VaryingPlace, stages: &[St]) -> bool
 fn is_input(place: &VaryingPlace, stages: &[St]) -> bool
     ensures { result ≡ is_there place.now (Into stages.now) }
 {
-    is_at(place, stages) && !place.output
+    is_at_one_of(place, stages) && !place.output
 }
 
 /// Whether the place is an output of one of these stages.
 fn is_output(place: &VaryingPlace, stages: &[St]) -> bool
     ensures { result ≡ is_there place.now (OutOf stages.now) }
 {
-    is_at(place, stages) && place.output
+    is_at_one_of(place, stages) && place.output
 }
 
 /// Whether primitives of a mesh are put out here.

@@ -155,7 +155,7 @@ fn answer_of(
 }
 
 /// What is answered of an expression, of the fact that is recorded of its function.
-fn stages_of(
+fn recorded_stages(
     fact: Option<&FunctionFact>,
     handle: Handle<tag::Expression>,
 ) -> Result<ShaderStages, ExpressionError>
@@ -233,7 +233,7 @@ impl Below for Recorded {
         _kinds: &ExpressionKindTracker,
     ) -> Result<ShaderStages, Refusal<ExpressionError>> {
         let fact = fact_asked(&self.facts, module, mod_info);
-        match stages_of(fact, handle) {
+        match recorded_stages(fact, handle) {
             Ok(stages) => Ok(stages),
             Err(error) => Err(Refusal::Fault(WithSpan::new(alloc, error))),
         }

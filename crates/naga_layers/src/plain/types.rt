@@ -104,7 +104,7 @@ fn type_of(
         | Expression::RayQueryGetIntersection { .. }
         | Expression::RayQueryVertexPositions { .. }
         | Expression::CooperativeLoad { .. }
-        | Expression::CooperativeMultiplyAdd { .. } => Ok(own_type(module, fun, expression)),
+        | Expression::CooperativeMultiplyAdd { .. } => Ok(named_type_of(module, fun, expression)),
     }
 }
 
@@ -120,7 +120,7 @@ fn result_type(module: &Module, function: Handle<tag::Function>) -> Option<TypeR
 /// The type of an expression that names something which has one.
 // (a call, so that what the other arms give is handed on in memory and not in many pieces)
 #[inline(never)]
-fn own_type(module: &Module, fun: &Function, expression: &Expression) -> Option<TypeResolution>
+fn named_type_of(module: &Module, fun: &Function, expression: &Expression) -> Option<TypeResolution>
     ensures { result ≡ named_type «module».now fun.now.arguments fun.now.local_variables expression.now }
 {
     let arguments = fun.arguments.as_slice();
