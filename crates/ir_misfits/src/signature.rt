@@ -1,6 +1,6 @@
 //! Whether the signature of a function fits, and what doesn't fit of it.
 
-ghost use Rattle.std.specs.Prelude.{◌<◌, ◌↔◌, ◌≡◌, IsTrue, IfSome, IfOk, All, false, slice_get, unwrap_or};
+ghost use Rattle.std.specs.Prelude.{◌<◌, ◌↔◌, ◌≡◌, ◌⊎◌, IsTrue, IfSome, IfOk, All, [], false, slice_get, unwrap_or};
 ghost use Rattle.ir_arena.specs.Points.{points_of_each};
 ghost use Rattle.ir_facts.specs.FitsBody.{SignatureFits, CalleeFits};
 ghost use Rattle.ir_misfits.specs.OfSignatures.{argument_points, outcome_points, signature_points, callee_points};
@@ -86,7 +86,8 @@ fn fitting_signatures(alloc: Global, module: &Module) -> Result<Vec<bool>, Alloc
 
 /// The marks of the functions whose signatures fit, or no mark where there is no memory for all.
 pub fn known_fitting(alloc: Global, module: &Module) -> Vec<bool>
-    ensures { MarkFitting «module».now result.items }
+    ensures fitting { MarkFitting «module».now result.items }
+    ensures all { (result.items ≡ []) ⊎ AreFittingMarks «module».now result.items }
 {
     match fitting_signatures(alloc, module) {
         Ok(marks) => marks,
