@@ -12,7 +12,37 @@ abbrev pub root_of : List (Option ℕ) → Expression → Option ℕ
 root_of earlier (e.GlobalVariable g) = Some g
 root_of earlier (e.Access base index) = root_at earlier base
 root_of earlier (e.AccessIndex base k) = root_at earlier base
-root_of earlier _ = None
+root_of earlier (e.Literal l) = None
+root_of earlier (e.Constant h) = None
+root_of earlier (e.Override h) = None
+root_of earlier (e.ZeroValue ty) = None
+root_of earlier (e.FunctionArgument i) = None
+root_of earlier (e.LocalVariable h) = None
+root_of earlier (e.Compose ty components) = None
+root_of earlier (e.Load pointer) = None
+root_of earlier (e.CallResult f) = None
+root_of earlier (e.AtomicResult ty comparison) = None
+root_of earlier (e.WorkGroupUniformLoadResult ty) = None
+root_of earlier e.RayQueryProceedResult = None
+root_of earlier e.SubgroupBallotResult = None
+root_of earlier (e.SubgroupOperationResult ty) = None
+root_of earlier (e.Splat detail operands) = None
+root_of earlier (e.Swizzle detail operands) = None
+root_of earlier (e.ImageSample detail operands) = None
+root_of earlier (e.ImageLoad detail operands) = None
+root_of earlier (e.ImageQuery detail operands) = None
+root_of earlier (e.Unary detail operands) = None
+root_of earlier (e.Binary detail operands) = None
+root_of earlier (e.Select detail operands) = None
+root_of earlier (e.Derivative detail operands) = None
+root_of earlier (e.Relational detail operands) = None
+root_of earlier (e.Math detail operands) = None
+root_of earlier (e.As detail operands) = None
+root_of earlier (e.ArrayLength detail operands) = None
+root_of earlier (e.RayQueryGetIntersection detail operands) = None
+root_of earlier (e.RayQueryVertexPositions detail operands) = None
+root_of earlier (e.CooperativeLoad detail operands) = None
+root_of earlier (e.CooperativeMultiplyAdd detail operands) = None
 
 -- the roots of these expressions after those of the ones before them
 unfoldable pub roots_from : List (Option ℕ) → List Expression → List (Option ℕ)
