@@ -37,7 +37,7 @@ pub(crate) fn push(list: &mut Sequence<Located>, statement: Statement) -> Result
 /// A block of these statements.
 #[inline(always)]
 #[tactic(auto, unfolding(crate::specs::CaseBlocks::block_from))]
-pub(crate) fn block_of(list: Sequence<Located>) -> Block
+pub(crate) fn block_from(list: Sequence<Located>) -> Block
     ensures { result ≡ block_from list }
 {
     Block { list }
@@ -45,7 +45,7 @@ pub(crate) fn block_of(list: Sequence<Located>) -> Block
 
 /// An Emit of the expressions from `first` to `last`, both included.
 #[inline(always)]
-pub(crate) fn emission(first: u8, last: u8) -> Statement
+pub(crate) fn emitting(first: u8, last: u8) -> Statement
     ensures { result ≡ emitting first last }
 {
     Statement::Emit(Range {
@@ -56,7 +56,7 @@ pub(crate) fn emission(first: u8, last: u8) -> Statement
 
 /// A store of a value where a pointer points.
 #[inline(always)]
-pub(crate) fn storing(pointer: u8, value: u8) -> Statement
+pub(crate) fn store_of(pointer: u8, value: u8) -> Statement
     ensures { result ≡ store_of pointer value }
 {
     Statement::Store {
@@ -67,7 +67,7 @@ pub(crate) fn storing(pointer: u8, value: u8) -> Statement
 
 /// The control barrier that names no memory.
 #[inline(always)]
-pub(crate) fn waiting() -> Statement
+pub(crate) fn control_barrier() -> Statement
     ensures { result ≡ control_barrier }
 {
     Statement::ControlBarrier(Barrier::empty())
@@ -75,7 +75,7 @@ pub(crate) fn waiting() -> Statement
 
 /// A call of `f` with this result.
 #[inline(always)]
-pub(crate) fn calling(alloc: Global, answer: Option<u8>) -> Statement
+pub(crate) fn call_of(alloc: Global, answer: Option<u8>) -> Statement
     ensures { result ≡ call_of answer }
 {
     Statement::Call {

@@ -13,7 +13,7 @@ mod parts;
 mod stack;
 
 use crate::bench::Bench;
-use crate::build::{block_of, calling, emission, expression, storing, waiting};
+use crate::build::{block_from, call_of, control_barrier, emitting, expression, store_of};
 use crate::case::CaseError;
 use crate::reader::parts::{Brace, Frame, Naming, Tail, Wants};
 use crate::token::{Token, token_of};
@@ -143,11 +143,11 @@ impl Reader {
     {
         match tail {
             Tail::Nothing => self.want(Wants::Statement(Tail::Nothing)),
-            Tail::Emit(first) => self.put(emission(first, first)),
+            Tail::Emit(first) => self.put(emitting(first, first)),
             Tail::Return => self.put(Statement::Return { value: None }),
             Tail::Loop => self.end_loop(None),
             Tail::Call => {
-                let statement = calling(self.alloc, None);
+                let statement = call_of(self.alloc, None);
                 self.put(statement)
             }
         }
@@ -183,7 +183,7 @@ impl Reader {
             Token::Break => self.put(Statement::Break),
             Token::Continue => self.put(Statement::Continue),
             Token::Kill => self.put(Statement::Kill),
-            Token::Barrier => self.put(waiting()),
+            Token::Barrier => self.put(control_barrier()),
             _ => Err(CaseError::Unreadable),
         }
     }
@@ -214,12 +214,12 @@ impl Reader {
                 if name < first {
                     return Err(CaseError::Unreadable);
                 }
-                self.put(emission(first, name))
+                self.put(emitting(first, name))
             }
             Naming::BreakIf => self.end_loop(Some(name)),
-            Naming::Stored(pointer) => self.put(storing(pointer, name)),
+            Naming::Stored(pointer) => self.put(store_of(pointer, name)),
             Naming::Result => {
-                let statement = calling(self.alloc, Some(name));
+                let statement = call_of(self.alloc, Some(name));
                 self.put(statement)
             }
             Naming::First | Naming::Condition | Naming::Selector | Naming::Pointer => {
@@ -246,7 +246,7 @@ impl Reader {
             list,
             wants: _,
         } = self;
-        Ok(block_of(list))
+        Ok(block_from(list))
     }
 }
 

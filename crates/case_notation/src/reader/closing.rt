@@ -1,6 +1,6 @@
 //! The end of a part: what it becomes of the part around it.
 
-use crate::build::{block_of, case_of, choice, repetition, switch};
+use crate::build::{block_from, case_of, choice, repetition, switch};
 use crate::case::CaseError;
 use crate::reader::Reader;
 use crate::reader::parts::{Frame, Kind, Tail, Wants};
@@ -46,7 +46,7 @@ impl Reader {
                 let list = mem::replace(&mut self.list, Sequence::new(self.alloc));
                 frame.kind = Kind::Reject {
                     condition,
-                    accept: block_of(list),
+                    accept: block_from(list),
                 };
                 self.want(Wants::Between)
             }
@@ -67,7 +67,7 @@ impl Reader {
             Kind::Turn => {
                 let list = mem::replace(&mut self.list, Sequence::new(self.alloc));
                 frame.kind = Kind::Continuing {
-                    turn: block_of(list),
+                    turn: block_from(list),
                 };
                 self.want(Wants::Between)
             }
@@ -87,7 +87,7 @@ impl Reader {
         match kind {
             Kind::Block => {
                 let list = self.change_list(outer);
-                self.put(Statement::Block(block_of(list)))
+                self.put(Statement::Block(block_from(list)))
             }
             _ => Err(CaseError::Unreadable),
         }
@@ -104,7 +104,7 @@ impl Reader {
         };
         match kind {
             Kind::Reject { condition, accept } => {
-                let reject = block_of(self.change_list(outer));
+                let reject = block_from(self.change_list(outer));
                 self.put(choice(condition, accept, reject))
             }
             _ => Err(CaseError::Unreadable),
@@ -125,7 +125,7 @@ impl Reader {
                 value,
                 fall_through,
             } => {
-                let list = block_of(self.take_list());
+                let list = block_from(self.take_list());
                 self.add_case(case_of(value, list, fall_through))
             }
             _ => Err(CaseError::Unreadable),
@@ -174,7 +174,7 @@ impl Reader {
         };
         match kind {
             Kind::Continuing { turn } => {
-                let continuing = block_of(self.change_list(outer));
+                let continuing = block_from(self.change_list(outer));
                 self.put(repetition(turn, continuing, break_if))
             }
             _ => Err(CaseError::Unreadable),

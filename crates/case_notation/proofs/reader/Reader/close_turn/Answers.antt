@@ -5,7 +5,7 @@ use Rattle.case_notation.proofs.reader.Reader.close_turn.Goals as goal
 
 pub returns-in-Turn : goal.returns-in-Turn
 returns-in-Turn c =
-    moved _ _ _ _ (turn_closed c.args.self.now.opened.items _ c.in-Some.frame.now (omega (arith, c.args.self.now.opened.ok.0, c.in-Some.ensures.item.3.0)) c.in-Some.ensures.value _ _ _ c.in-Turn.is (c.block_of.ensures ∙ ap block_from c.replace-list.ensures.value) (c.replace-list.ensures.after ∙ c.new.ensures)) c.want.ensures
+    moved _ _ _ _ (turn_closed c.args.self.now.opened.items _ c.in-Some.frame.now (omega (arith, c.args.self.now.opened.ok.0, c.in-Some.ensures.item.3.0)) c.in-Some.ensures.value _ _ _ c.in-Turn.is (c.block_from.ensures ∙ ap block_from c.replace-list.ensures.value) (c.replace-list.ensures.after ∙ c.new.ensures)) c.want.ensures
 
 pub returns-in_default-kind : goal.returns-in_default-kind
 returns-in_default-kind c =
