@@ -10,4 +10,4 @@ pub mod sizes;
 mod structs;
 
 pub use crate::infos::infos_of_types;
-pub use crate::sizes::size_of;
+pub use crate::sizes::size_at;

@@ -4,7 +4,7 @@ ghost use Rattle.std.specs.Prelude.{◌≡◌, slice_get};
 ghost use Rattle.ir_types.specs.Types.{inner_at};
 ghost use Rattle.layer_types.specs.Parts.{data_part, part_of};
 
-use crate::sizes::inner_size;
+use crate::sizes::size_of;
 use ir_arena::handle::Handle;
 use ir_arena::tag;
 use ir_flags::valid::TypeFlags;
@@ -58,7 +58,7 @@ fn data_part(info: &TypeInfo, inner: &TypeInner) -> Option<DataPart>
         Some(DataPart {
             info: *info,
             alignment,
-            size: inner_size(inner),
+            size: size_of(inner),
             is_struct: is_struct(Some(inner)),
         })
     } else {

@@ -10,17 +10,17 @@ use ir_types::type_methods::inner_at;
 use ir_types::types::{ArraySize, Type, TypeInner};
 
 /// The size of the type with a handle, in bytes, where it is known before the pipeline is made and fits 32 bits.
-pub fn size_of(types: &[Type], ty: Handle<tag::Type>) -> Option<u32>
+pub fn size_at(types: &[Type], ty: Handle<tag::Type>) -> Option<u32>
     ensures { result ≡ size_at types.now ty }
 {
     match inner_at(types, ty) {
-        Some(inner) => inner_size(inner),
+        Some(inner) => size_of(inner),
         None => None,
     }
 }
 
 /// The size of a type, in bytes. It is read off the type alone: a struct has its span, an array its stride.
-pub(crate) fn inner_size(inner: &TypeInner) -> Option<u32>
+pub(crate) fn size_of(inner: &TypeInner) -> Option<u32>
     ensures { result ≡ size_of inner.now }
 {
     match inner {

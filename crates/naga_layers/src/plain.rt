@@ -27,7 +27,7 @@ use ir_flags::valid::{ShaderStages, ValidationFlags};
 use ir_module::expressions::Expression;
 use ir_module::functions::Function;
 use ir_module::module::{MeshOutputTopology, MeshStageInfo, Module};
-use layer_types::size_of;
+use layer_types::size_at;
 use std::alloc::{AllocError, Global};
 
 /// A lower layer that types the simplest expressions, and refuses any other as `Lower(1)`.
@@ -138,7 +138,7 @@ impl Below for Plain {
     }
 
     fn type_size(&self, module: &Module, ty: Handle<tag::Type>) -> Option<u32> {
-        size_of(module.types.as_slice(), ty)
+        size_at(module.types.as_slice(), ty)
     }
 
     ghost one_type_each = { λ _ f m _ _ _ info h. info_one_type_each f m info h };

@@ -27,7 +27,7 @@ use ir_module::expressions::Expression;
 use ir_module::functions::Function;
 use ir_module::module::Module;
 use layer_expressions::types::{Untyped, types_of};
-use layer_types::size_of;
+use layer_types::size_at;
 use layer_uses::uses::uses_of;
 use std::alloc::{AllocError, Global};
 
@@ -151,7 +151,7 @@ impl Below for Typed {
     }
 
     fn type_size(&self, module: &Module, ty: Handle<tag::Type>) -> Option<u32> {
-        size_of(module.types.as_slice(), ty)
+        size_at(module.types.as_slice(), ty)
     }
 
     ghost one_type_each = { λ _ f m i _ _ info h. one_type_each f m i info h };

@@ -157,7 +157,7 @@ fn expect_sizes(rt: &impl Abort, module: &Module) {
         (5, None),
         (6, None),
     ] {
-        holds!(rt; layer_types::size_of(module.types.as_slice(), Handle::new(ty)) == size);
+        holds!(rt; layer_types::size_at(module.types.as_slice(), Handle::new(ty)) == size);
         holds!(rt; plain.type_size(module, Handle::new(ty)) == size);
     }
 }
