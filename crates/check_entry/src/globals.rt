@@ -21,7 +21,7 @@ use ir_types::type_methods::inner_at;
 use ir_types::types::{AddressSpace, ImageClass, TypeInner};
 
 /// How a global is used.
-pub(crate) fn uses_of(info: &FunctionInfo, index: usize) -> Option<GlobalUse>
+pub(crate) fn use_at(info: &FunctionInfo, index: usize) -> Option<GlobalUse>
     ensures { result ≡ slice_get info.now.global_uses index }
 {
     info.global_uses.as_slice().get(index).copied()

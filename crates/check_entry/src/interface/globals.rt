@@ -11,7 +11,7 @@ ghost use Rattle.ir_facts.specs.Answers.{Answers, Finds, FirstOf, read_by};
 
 use crate::answers::answer;
 use crate::bindings::{binding_holds, check_binding};
-use crate::globals::{check_allowed, check_immediates, is_used_immediate, use_holds, uses_of};
+use crate::globals::{check_allowed, check_immediates, is_used_immediate, use_at, use_holds};
 use crate::interface::InterfaceContext;
 use bitflags::Flags;
 use check_faults::entry::EntryPointError;
@@ -80,7 +80,7 @@ impl<'a, B: Below> InterfaceContext<'a, B> {
         ensures { Finds (FirstOf (global_points (B.meaning self.now.below.now) self.now.settings.flags self.now.program.now
             self.now.entry_point.now self.now.info.now.global_uses handle var.now)) result }
     {
-        let Some(uses) = uses_of(self.info, handle.index()) else {
+        let Some(uses) = use_at(self.info, handle.index()) else {
             return Ok(());
         };
         if uses.is_empty() {
@@ -134,7 +134,7 @@ impl<'a, B: Below> InterfaceContext<'a, B> {
         ensures { IsTrue result → first_fault (global_points (B.meaning self.now.below.now) self.now.settings.flags
             self.now.program.now self.now.entry_point.now self.now.info.now.global_uses index var.now) ≡ None }
     {
-        let Some(uses) = uses_of(self.info, index) else {
+        let Some(uses) = use_at(self.info, index) else {
             return true;
         };
         if uses.is_empty() {
