@@ -18,7 +18,7 @@ ghost use Rattle.check_scope.specs.walk.Table.{KnowsRoots, known};
 use check_scope::context::BlockContext;
 use check_scope::pointers::{base_type, is_writable};
 use check_scope::refuse::not_in_scope;
-use check_scope::roots::root_of;
+use check_scope::roots::root_at;
 use check_scope::table::{RootColumn, ScopeColumn};
 use check_scope::types::{is_of_type, is_scalar};
 use ir_arena::handle::Handle;
@@ -68,7 +68,7 @@ fn store_holds(
         (store_points (context_of context.now) (place_at (known scope.now)) pointer value) }
     ensures roots { KnowsRoots (context_of context.now) roots.new }
 {
-    is_variable(context.expression(roots.root_of(context, pointer)))
+    is_variable(context.expression(roots.root_at(context, pointer)))
         && scope.may_use(value)
         && !is_texture(context.type_inner(value))
         && is_stored_at(context, value, pointer)
@@ -113,7 +113,7 @@ fn first_fault_of_store(
         (store_points (context_of context.now) (place_at (known scope.now)) pointer value) result }
 {
     let alloc = scope.allocator();
-    let root = root_of(context, pointer);
+    let root = root_at(context, pointer);
     if !is_variable(context.expression(root)) {
         let fault = FunctionError::InvalidStorePointer(root);
         return Err(Refused::placed(alloc, fault, *span));

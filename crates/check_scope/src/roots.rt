@@ -23,7 +23,7 @@ pub fn access_base_in(expression: Option<&Expression>) -> Option<Handle<tag::Exp
 }
 
 /// Where the walk from an expression stops, which goes from an access to its base.
-pub fn root_of(
+pub fn root_at(
     context: &BlockContext,
     expression: Handle<tag::Expression>,
 ) -> Handle<tag::Expression>

@@ -33,7 +33,7 @@ fn check_each_filled(filled: &FilledColumn, context: &BlockContext) -> Result<()
     let count = context.fun.expressions.len() as u32;
     for index in 0..count {
         let handle = Handle::new(index);
-        if filled.is_unfilled(handle) {
+        if filled.is_still_to_fill(handle) {
             return Err(FunctionError::UnvisitedExpression(handle));
         }
     }

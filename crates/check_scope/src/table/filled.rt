@@ -41,7 +41,7 @@ impl FilledColumn {
     }
 
     /// Whether an expression is a result that is still to be filled.
-    pub fn is_unfilled(&self, handle: Handle<tag::Expression>) -> bool
+    pub fn is_still_to_fill(&self, handle: Handle<tag::Expression>) -> bool
         ensures { result ≡ unfilled_in self.now handle }
     {
         match self.marks.as_slice().get(handle.index()) {

@@ -7,7 +7,7 @@ ghost use Rattle.check_scope.specs.walk.SeenContext.{context_of};
 ghost use Rattle.check_scope.specs.walk.Table.{KnowsRoots};
 
 use crate::context::BlockContext;
-use crate::roots::{access_base_in, root_of};
+use crate::roots::{access_base_in, root_at};
 use crate::table::RootColumn;
 use ir_arena::handle::Handle;
 use ir_arena::tag;
@@ -33,7 +33,7 @@ impl RootColumn {
 
     /// Where the walk from an expression stops, which goes from an access to its base.
     #[inline]
-    pub fn root_of(
+    pub fn root_at(
         &mut self,
         context: &BlockContext,
         expression: Handle<tag::Expression>,
@@ -50,14 +50,14 @@ impl RootColumn {
                 None => return handle,
             }
         }
-        self.far_root_of(context, handle)
+        self.far_root_at(context, handle)
     }
 
     /// The same where the walk is long: by the roots of all expressions, which are found once for a function. Where
     /// memory is short the walk is made.
     #[cold]
     #[inline(never)]
-    fn far_root_of(
+    fn far_root_at(
         &mut self,
         context: &BlockContext,
         expression: Handle<tag::Expression>,
@@ -72,7 +72,7 @@ impl RootColumn {
         }
         match self.roots.as_slice().get(expression.index()) {
             Some(root) => *root,
-            None => root_of(context, expression),
+            None => root_at(context, expression),
         }
     }
 

@@ -1,7 +1,7 @@
 use Rattle.std.proofs.Common.{◌≡◌}
 use Rattle.check_scope.specs.walk.SeenContext.{context_of}
 use Rattle.check_scope.specs.Roots.{root_at}
-use Rattle.check_scope.proofs.roots.root_of.Given as goal
+use Rattle.check_scope.proofs.roots.root_at.Given as goal
 
 -- the walk from here stops where the whole does
 abbrev pub invariant-loop-base : goal.invariant-loop-base

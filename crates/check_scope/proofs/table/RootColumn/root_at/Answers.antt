@@ -1,7 +1,7 @@
 use Rattle.std.proofs.Common.{sym, ap, ◌∙◌}
 use Rattle.check_scope.specs.Roots.{access_base_in}
 use Rattle.check_scope.proofs.Walks.{root_of_base, root_of_itself}
-use Rattle.check_scope.proofs.table.RootColumn.root_of.Goals as goal
+use Rattle.check_scope.proofs.table.RootColumn.root_at.Goals as goal
 
 pub loop-step-preserved : goal.loop-step-preserved
 loop-step-preserved c =
