@@ -2,7 +2,7 @@
 
 ghost use Rattle.std.specs.Prelude.{◌≡◌};
 ghost use Rattle.std.specs.Option.{option_copied};
-ghost use Rattle.layer_expressions.specs.OperandTypes.{type_of_operand, shape_of_operand, arguments_of, two_of, three_of, four_of};
+ghost use Rattle.layer_expressions.specs.OperandTypes.{type_of_operand, shape_of_operand, arguments_of, two_arguments, three_arguments, four_arguments};
 
 use ir_arena::handle::Handle;
 use ir_arena::tag;
@@ -49,27 +49,27 @@ pub(crate) fn shape_of_operand(
 }
 
 /// Two shapes, where both are there.
-fn two_of(a: Option<Shape>, b: Option<Shape>) -> Option<Arguments>
-    ensures { result ≡ two_of a b }
+fn two_arguments(a: Option<Shape>, b: Option<Shape>) -> Option<Arguments>
+    ensures { result ≡ two_arguments a b }
 {
     Some(Arguments::Two(a?, b?))
 }
 
 /// The same of three.
-fn three_of(a: Option<Shape>, b: Option<Shape>, c: Option<Shape>) -> Option<Arguments>
-    ensures { result ≡ three_of a b c }
+fn three_arguments(a: Option<Shape>, b: Option<Shape>, c: Option<Shape>) -> Option<Arguments>
+    ensures { result ≡ three_arguments a b c }
 {
     Some(Arguments::Three(a?, b?, c?))
 }
 
 /// The same of four.
-fn four_of(
+fn four_arguments(
     a: Option<Shape>,
     b: Option<Shape>,
     c: Option<Shape>,
     d: Option<Shape>,
 ) -> Option<Arguments>
-    ensures { result ≡ four_of a b c d }
+    ensures { result ≡ four_arguments a b c d }
 {
     Some(Arguments::Four(a?, b?, c?, d?))
 }
@@ -84,16 +84,16 @@ pub(crate) fn arguments_of(
 {
     match operands {
         [a] => Some(Arguments::One(shape_of_operand(types, earlier, *a)?)),
-        [a, b] => two_of(
+        [a, b] => two_arguments(
             shape_of_operand(types, earlier, *a),
             shape_of_operand(types, earlier, *b),
         ),
-        [a, b, c] => three_of(
+        [a, b, c] => three_arguments(
             shape_of_operand(types, earlier, *a),
             shape_of_operand(types, earlier, *b),
             shape_of_operand(types, earlier, *c),
         ),
-        [a, b, c, d] => four_of(
+        [a, b, c, d] => four_arguments(
             shape_of_operand(types, earlier, *a),
             shape_of_operand(types, earlier, *b),
             shape_of_operand(types, earlier, *c),
