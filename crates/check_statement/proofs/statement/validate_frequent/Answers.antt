@@ -1,4 +1,4 @@
-use Rattle.std.proofs.Common.{arith, ◌≡◌, ◌<◌, ◌-◌, IfSome, Result, Ok, Err, subst, sym, ◌∙◌}
+use Rattle.std.proofs.Common.{arith, rules, ◌≡◌, ◌<◌, ◌-◌, IfSome, Result, Ok, Err, subst, sym, ◌∙◌}
 use Rattle.std.specs.Prelude.{IsErr, IsErrAnd}
 use Rattle.ir_arena.specs.declared.span.Refusal.{Refusal}
 use Rattle.ir_facts.specs.Answers.{IsFirstFault, Answers, FirstOf}
@@ -66,3 +66,13 @@ returns-in_ok-validate_call-in-Call-clause-table c = record {
   operands = put_operands c.in_ok-validate_call-in-Call.ensures.scope c.requires.table.operands;
   roots = c.requires.table.roots;
 }
+
+-- what edits of the gate leave open
+
+pub returns-in_ok-validate_emit-in-Emit-clause-table :
+    goal.returns-in_ok-validate_emit-in-Emit-clause-table
+returns-in_ok-validate_emit-in-Emit-clause-table c = search rules
+
+pub returns-in_ok-validate_call-in-Call-clause-state :
+    goal.returns-in_ok-validate_call-in-Call-clause-state
+returns-in_ok-validate_call-in-Call-clause-state c = search rules

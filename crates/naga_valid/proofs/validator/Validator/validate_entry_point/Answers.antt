@@ -133,3 +133,12 @@ returns-in-Ok-judge_interface-clause-built_ins g c =
 pub returns-in-Ok-judge_interface-clause-chains : goal.returns-in-Ok-judge_interface-clause-chains
 returns-in-Ok-judge_interface-clause-chains g c = λ on vetted.
     entry_keeps_its_stage _ _ _ _ _ _ _ _ (accepted g c) on vetted (fits_calls_below _ _ _ c.requires.function)
+
+-- what edits of the gate leave open
+
+pub returns-in-Err-clause-memory : goal.returns-in-Err-clause-memory
+returns-in-Err-clause-memory g c = search rules
+
+pub returns-in-Err-judge_interface-clause-refused :
+    goal.returns-in-Err-judge_interface-clause-refused
+returns-in-Err-judge_interface-clause-refused g c = search rules

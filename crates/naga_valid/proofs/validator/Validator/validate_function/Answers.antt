@@ -29,3 +29,8 @@ returns-in-Ok-clause-returns g c = has_no_return_in_continuing _ _ _ _ _ _ _ _ _
 
 pub returns-in-Ok-clause-switches : goal.returns-in-Ok-clause-switches
 returns-in-Ok-clause-switches g c = has_whole_switches _ _ _ _ _ _ _ _ _ (left_is _ _ _ c.in-Ok.is c.judge_known-judged.ensures.judged)
+
+-- what edits of the gate leave open
+
+pub returns-in-Err-clause-refused : goal.returns-in-Err-clause-refused
+returns-in-Err-clause-refused g c = search rules
