@@ -132,16 +132,20 @@ abbrev pub has_required : Capabilities → Option Capabilities → Bool
 has_required capabilities None = true
 has_required capabilities (Some required) = has_capability capabilities required
 
--- what is bound to a built-in, where this was seen before and this is its rule
-abbrev pub ruled_points : VaryingPlace → List IrType → Seen → TypeInner → BuiltIn → BuiltInRule → List (Point VaryingError)
-ruled_points place types seen given b rule =
-    (not (seen.built_ins (canonical b)), DuplicateBuiltIn b)
-    ∷ (has_required place.capabilities rule.required, UnsupportedCapability (unwrap_or rule.required NO_CAPABILITY))
+-- what the rule of a built-in asks of what is bound to it
+abbrev pub rule_points : VaryingPlace → List IrType → TypeInner → BuiltIn → BuiltInRule → List (Point VaryingError)
+rule_points place types given b rule =
+    (has_required place.capabilities rule.required, UnsupportedCapability (unwrap_or rule.required NO_CAPABILITY))
     ∷ (not (is_of_one_dimension b) || has_one_dimension place, InvalidMultiDimensionalSubgroupBuiltIn)
     ∷ (not rule.mesh_shader || has_capability place.capabilities MESH_SHADER, UnsupportedCapability MESH_SHADER)
     ∷ (rule.visible, InvalidBuiltInStage b)
     ∷ (has_built_in_type types given rule.ty, InvalidBuiltInType b given)
     ∷ []
+
+-- what is bound to a built-in, where this was seen before and this is its rule
+abbrev pub ruled_points : VaryingPlace → List IrType → Seen → TypeInner → BuiltIn → BuiltInRule → List (Point VaryingError)
+ruled_points place types seen given b rule =
+    (not (seen.built_ins (canonical b)), DuplicateBuiltIn b) ∷ rule_points place types given b rule
 
 -- the same by its rule, where the type is there
 abbrev pub built_in_points : VaryingPlace → List IrType → Seen → Option TypeInner → BuiltIn → List (Point VaryingError)

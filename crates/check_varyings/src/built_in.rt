@@ -4,10 +4,10 @@ ghost use Rattle.std.specs.Prelude.{◌≡◌, ◌<◌, ◌||◌, not, None, len
 ghost use Rattle.ir_flags.specs.Capabilities.{MESH_SHADER, has_capability};
 ghost use Rattle.ir_types.specs.Types.{NamesTypesBelow, NameEachOther, inner_at};
 ghost use Rattle.ir_facts.specs.Answers.{Answers, FirstOf};
-ghost use Rattle.check_varyings.specs.Varyings.{built_in_points, has_built_in_type, has_one_dimension, has_required, is_distances, is_of_one_dimension, seen_in};
+ghost use Rattle.check_varyings.specs.Varyings.{built_in_points, has_built_in_type, has_one_dimension, has_required, is_distances, is_of_one_dimension, rule_points, seen_in};
 
 use crate::context::VaryingContext;
-use crate::rule::{BuiltInType, builtin_rule};
+use crate::rule::{BuiltInRule, BuiltInType, builtin_rule};
 use crate::varying::{VaryingPlace, VaryingState, canonical};
 use ir_arena::handle::Handle;
 use ir_arena::span::Refusal;
@@ -33,11 +33,27 @@ pub(crate) fn check_built_in(
         (inner_at context.now.types.now ty) built_in))
         result }
 {
-    let place = context.place;
     if state.has_built_in(canonical(built_in)) {
         return Err(context.refusal(VaryingError::DuplicateBuiltIn(built_in)));
     }
-    let rule = builtin_rule(built_in, place);
+    let rule = builtin_rule(built_in, context.place);
+    let checked = check_rule(context, context.inner(ty), built_in, &rule);
+    drop(rule);
+    checked
+}
+
+/// What the rule of a built-in asks of a type that is bound to it.
+fn check_rule(
+    context: &VaryingContext,
+    inner: &TypeInner,
+    built_in: BuiltIn,
+    rule: &BuiltInRule,
+) -> Result<(), Refusal<VaryingError>>
+    requires { NamesTypesBelow (length context.now.types.now) inner.now }
+    ensures { Answers
+        (FirstOf (rule_points context.now.place.now context.now.types.now inner.now built_in rule.now)) result }
+{
+    let place = context.place;
     if let Some(required) = missing(place.capabilities, rule.required) {
         return Err(context.refusal(VaryingError::UnsupportedCapability(required)));
     }
@@ -51,7 +67,6 @@ pub(crate) fn check_built_in(
     if !rule.visible {
         return Err(context.refusal(VaryingError::InvalidBuiltInStage(built_in)));
     }
-    let inner = context.inner(ty);
     if !has_type(context.types, inner, &rule.ty) {
         let fault = VaryingError::InvalidBuiltInType(built_in, inner.clone(context.alloc)?);
         return Err(context.refusal(fault));
