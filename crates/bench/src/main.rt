@@ -227,21 +227,27 @@ fn tenths_each(nanos: u64, statements: usize) -> u64 {
     }
 }
 
+/// Prints the times of a case.
+fn print_times(rt: &HostRuntime, case: Case, times: Times) -> io::Result<()> {
+    let own = tenths_each(times.whole.saturating_sub(times.lower), case.statements);
+    let (nanos, tenths) = (own / 10, own % 10);
+    let Times {
+        whole,
+        lower,
+        conditions,
+    } = times;
+    let Case {
+        name,
+        statements,
+        ..
+    } = case;
+    println!(rt; "{name} {statements} {whole} {lower} {conditions} {nanos}.{tenths}")
+}
+
+/// Prints the times of a case, or why it has none.
 fn print(rt: &HostRuntime, case: Case, times: Result<Times, Stop>) -> io::Result<()> {
     match times {
-        Ok(times) => {
-            let own = tenths_each(times.whole.saturating_sub(times.lower), case.statements);
-            println!(rt;
-                "{:<34} {:>7} {:>11} {:>11} {:>11} {:>7}.{}",
-                case.name,
-                case.statements,
-                times.whole,
-                times.lower,
-                times.conditions,
-                own / 10,
-                own % 10
-            )
-        }
+        Ok(times) => print_times(rt, case, times),
         Err(Stop::Refused) => println!(rt; "{}: refused", case.name),
         Err(Stop::Failed(error)) => Err(error),
     }
@@ -267,10 +273,7 @@ fn visit(rt: &HostRuntime, case: Case, word: Option<&str>) -> io::Result<()> {
 
 /// Runs the cases that a word asks for. Without a word the names of all are printed.
 fn visit_all(rt: &HostRuntime, word: Option<&str>) -> io::Result<()> {
-    for case in &BODIES {
-        visit(rt, *case, word)?;
-    }
-    for case in &WHOLES {
+    for case in BODIES.iter().chain(&WHOLES) {
         visit(rt, *case, word)?;
     }
     Ok(())
@@ -281,22 +284,31 @@ fn nest(rt: &HostRuntime, holder: &str, depth: &str, is_judged: bool) -> io::Res
     match (nesting::holder_of(holder), depth.parse()) {
         (Some(holder), Ok(depth)) => {
             let mut validator = validator(rt.alloc(), TYPES)?;
-            nesting::run(rt, &mut validator, holder, depth, is_judged)
+            let told = nesting::run(rt, &mut validator, holder, depth, is_judged);
+            drop(validator);
+            told
         }
         _ => println!(rt; "nesting|dropping block|if|loop DEPTH"),
     }
 }
 
-fn main(rt: HostRuntime) -> io::Result<()> {
-    let words: Vec<String> = env::args(&rt)?.skip(1).collect(rt.alloc())?;
-    match words.as_slice() {
+/// Does what these words ask for.
+fn answer(rt: &HostRuntime, words: &[String]) -> io::Result<()> {
+    match words {
         [what, holder, depth] if what.as_str() == "nesting" => {
-            nest(&rt, holder.as_str(), depth.as_str(), true)
+            nest(rt, holder.as_str(), depth.as_str(), true)
         }
         [what, holder, depth] if what.as_str() == "dropping" => {
-            nest(&rt, holder.as_str(), depth.as_str(), false)
+            nest(rt, holder.as_str(), depth.as_str(), false)
         }
-        [word, ..] => visit_all(&rt, Some(word.as_str())),
-        [] => visit_all(&rt, None),
+        [word, ..] => visit_all(rt, Some(word.as_str())),
+        [] => visit_all(rt, None),
     }
+}
+
+fn main(rt: HostRuntime) -> io::Result<()> {
+    let words: Vec<String> = env::args(&rt)?.skip(1).collect(rt.alloc())?;
+    let answered = answer(&rt, words.as_slice());
+    drop(words);
+    answered
 }

@@ -33,10 +33,10 @@ fn judge(rt: &HostRuntime, validator: &mut Validator<Plain>, program: &Program) 
         return println!(rt; "not fit");
     }
     println!(rt; "tested")?;
-    match validator.validate_function(rt.alloc(), fun, module, infos, false) {
-        Ok(_) => println!(rt; "judged"),
-        Err(_) => println!(rt; "refused"),
-    }
+    let answer = validator.validate_function(rt.alloc(), fun, module, infos, false);
+    let is_refused = answer.is_err();
+    drop(answer);
+    println!(rt; "{}", if is_refused { "refused" } else { "judged" })
 }
 
 /// Makes a function of a shape, says so, and maybe judges it.

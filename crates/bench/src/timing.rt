@@ -171,6 +171,16 @@ fn conditions(
     Ok(fastest)
 }
 
+/// How long a judgement took, unless it refused something.
+fn accepted(time: io::Result<Duration>, is_refused: bool) -> Result<u64, Stop> {
+    let nanos = nanos(time?);
+    if is_refused {
+        Err(Stop::Refused)
+    } else {
+        Ok(nanos)
+    }
+}
+
 /// Judges a function so many times: the fastest. What is answered is dropped after the clock has stopped.
 fn judgement(
     rt: &HostRuntime,
@@ -192,10 +202,7 @@ fn judgement(
         let time = start.elapsed(rt);
         let is_refused = answer.is_err();
         drop(answer);
-        if is_refused {
-            return Err(Stop::Refused);
-        }
-        fastest = fastest.min(nanos(time?));
+        fastest = fastest.min(accepted(time, is_refused)?);
     }
     Ok(fastest)
 }
@@ -244,10 +251,7 @@ pub(crate) fn entry_point(
     let time = start.elapsed(rt);
     let is_refused = answer.is_err();
     drop(answer);
-    if is_refused {
-        return Err(Stop::Refused);
-    }
-    let whole = nanos(time?);
+    let whole = accepted(time, is_refused)?;
     let fun = &ep.function;
     let lower = lower(rt, Timed { fun, module, infos })?;
     Ok(Times {

@@ -231,7 +231,10 @@ fn told(alloc: Global, verdict: &Result<ModuleInfo, ModuleFault>) -> anyhow::Res
 fn verdict(alloc: Global, emits: bool) -> anyhow::Result<String> {
     let module = module(alloc, emits)?;
     let verdict = judge(alloc, &module);
-    told(alloc, &verdict)
+    let line = told(alloc, &verdict);
+    drop(verdict);
+    drop(module);
+    line
 }
 
 fn main(rt: HostRuntime) -> anyhow::Result<()> {

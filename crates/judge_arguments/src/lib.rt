@@ -2,7 +2,7 @@
 //! Part of `naga_judge`; no promise to users.
 #![tactic(auto)]
 
-use clap::{Arg, ArgAction, Command, Error};
+use clap::{Arg, ArgAction, ArgMatches, Command, Error};
 use std::alloc::{AllocError, Global};
 
 /// What the program is asked for. Of `--json-lines`, `--json` and `--explain` one is given at most.
@@ -33,19 +33,28 @@ docs/MODULES.md has the form of documents, docs/VERDICTS.md the meaning of verdi
 pub fn request_of<'a>(alloc: Global, words: &'a [String]) -> Result<Request<'a>, Error> {
     let command = options(alloc)?;
     let matches = command.try_get_matches_from(words)?;
-    let mut files = Vec::new(alloc);
-    if let Some(paths) = matches.get_strs("FILE") {
-        for path in paths {
-            files.push(*path)?;
-        }
-    }
+    let request = asked(alloc, &matches);
+    drop(matches);
+    Ok(request?)
+}
+
+/// What is asked for by words that fit the options.
+fn asked<'a>(alloc: Global, matches: &ArgMatches<'a>) -> Result<Request<'a>, AllocError> {
     Ok(Request {
         is_lines: matches.get_flag("json-lines"),
         is_json: matches.get_flag("json"),
         is_explained: matches.get_flag("explain"),
         is_quiet: matches.get_flag("quiet"),
-        files,
+        files: files_given(alloc, matches)?,
     })
+}
+
+/// The files that are given.
+fn files_given<'a>(alloc: Global, matches: &ArgMatches<'a>) -> Result<Vec<&'a str>, AllocError> {
+    match matches.get_strs("FILE") {
+        Some(paths) => paths.to_vec(alloc),
+        None => Ok(Vec::new(alloc)),
+    }
 }
 
 /// The option for a listing of what is refused.
@@ -105,14 +114,19 @@ fn add<'a>(words: &mut Vec<Arg<'a>>, word: Arg<'a>) -> Result<(), AllocError> {
     Ok(())
 }
 
+/// Adds the options, and the files.
+fn add_all<'a>(alloc: Global, words: &mut Vec<Arg<'a>>) -> Result<(), AllocError> {
+    add(words, explain(alloc))?;
+    add(words, json(alloc)?)?;
+    add(words, json_lines(alloc)?)?;
+    add(words, quiet(alloc))?;
+    add(words, files(alloc))
+}
+
 /// The options, and the files.
 fn words<'a>(alloc: Global) -> Result<Vec<Arg<'a>>, AllocError> {
     let mut words = Vec::new(alloc);
-    add(&mut words, explain(alloc))?;
-    add(&mut words, json(alloc)?)?;
-    add(&mut words, json_lines(alloc)?)?;
-    add(&mut words, quiet(alloc))?;
-    add(&mut words, files(alloc))?;
+    add_all(alloc, &mut words)?;
     Ok(words)
 }
 
