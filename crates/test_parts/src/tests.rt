@@ -3,6 +3,10 @@
 //! A test makes what owns memory by a helper, hands references to helpers that assert, and drops it by a call: so the proofs
 //! stay small.
 
+use ir_arena::{Handle, Span, tag};
+use ir_module::Module;
+use ir_types::{Type, TypeInner, UniqueArena};
+use std::error::Error;
 use std::process::Abort;
 
 /// What `assert!` does, by a call: a function that asserts much is then quick to prove.
@@ -25,4 +29,28 @@ fn made<T, E>(rt: &impl Abort, answer: Result<T, E>) -> T {
         Ok(value) => value,
         Err(_) => panic!(rt; "no memory"),
     }
+}
+
+/// Puts a type without a name into an arena that isn't full.
+fn put(rt: &impl Abort, types: &mut UniqueArena<Type>, inner: TypeInner) -> Handle<tag::Type> {
+    holds!(rt; !types.is_full());
+    made(
+        rt,
+        types.insert(Type { name: None, inner }, Span::UNDEFINED),
+    )
+}
+
+/// A module of this type alone.
+fn module_of(rt: &(impl Abort + AllocGlobal), inner: TypeInner) -> Module {
+    let mut module = Module::new(rt.alloc());
+    put(rt, &mut module.types, inner);
+    module
+}
+
+/// An error, which is taken as any error, prints this.
+fn expect_said<T: Error + Drop>(rt: &(impl Abort + AllocGlobal), error: T, text: &str) {
+    let said = made(rt, error.to_string(rt.alloc()));
+    drop(error);
+    holds!(rt; said.as_str() == text);
+    drop(said);
 }

@@ -1,17 +1,14 @@
 //! What no document says of computed types: how types are aligned that nothing holds, and types that name themselves.
 //! All else that the `layer_` crates compute is shown by documents of the stored run (`typed`, `computed`).
 
-use crate::tests::made;
-use ir_arena::{Handle, Span};
+use crate::tests::{made, put};
+use ir_arena::Handle;
 use ir_flags::StorageAccess;
 use ir_leaves::{ImageDimension, Scalar, ScalarKind, StorageFormat};
-use ir_module::Module;
-use ir_module::module::drop_module;
 use ir_types::{
     AddressSpace, ArraySize, Disalignment, ImageClass, Type, TypeInfo, TypeInner, UniqueArena,
 };
 use layer_types::infos_of_types;
-use std::alloc::Global;
 use std::num::NonZeroU32;
 use std::process::Abort;
 
@@ -21,32 +18,12 @@ const WIDE_BOOL: Scalar = Scalar {
     width: 4,
 };
 
-/// Puts a type without a name last.
-fn put(rt: &impl Abort, types: &mut UniqueArena<Type>, inner: TypeInner) {
-    if types.is_full() {
-        panic!(rt; "full");
-    }
-    made(
-        rt,
-        types.insert(Type { name: None, inner }, Span::UNDEFINED),
-    );
-}
-
 /// An image of two dimensions.
 fn image(class: ImageClass) -> TypeInner {
     TypeInner::Image {
         dim: ImageDimension::D2,
         arrayed: false,
         class,
-    }
-}
-
-/// An array of type 0.
-fn array(size: ArraySize, stride: u32) -> TypeInner {
-    TypeInner::Array {
-        base: Handle::new(0),
-        size,
-        stride,
     }
 }
 
@@ -91,7 +68,11 @@ fn inner_at(ty: u32) -> TypeInner {
         6 => TypeInner::RayQuery {
             vertex_return: false,
         },
-        7 => array(ArraySize::Pending(Handle::new(0)), 4),
+        7 => TypeInner::Array {
+            base: Handle::new(0),
+            size: ArraySize::Pending(Handle::new(0)),
+            stride: 4,
+        },
         8 => pointer(0),
         9 => bindings(0),
         10 => TypeInner::Scalar(WIDE_BOOL),
@@ -116,13 +97,6 @@ static ROWS: [(u8, u32); 13] = [
     (0, 0),
     (0, 0),
 ];
-
-/// A module of these types alone.
-fn module_of(alloc: Global, types: UniqueArena<Type>) -> Module {
-    let mut module = Module::new(alloc);
-    module.types = types;
-    module
-}
 
 /// Those of the rows.
 fn types_of_rows(rt: &(impl Abort + AllocGlobal)) -> UniqueArena<Type> {
@@ -162,9 +136,9 @@ fn expect_infos(rt: &impl Abort, infos: &[TypeInfo]) {
 
 #[test]
 fn types_that_nothing_holds(rt: HostRuntime) {
-    let module = module_of(rt.alloc(), types_of_rows(&rt));
-    let infos = made(&rt, infos_of_types(rt.alloc(), &module.types));
-    drop_module(module);
+    let types = types_of_rows(&rt);
+    let infos = made(&rt, infos_of_types(rt.alloc(), &types));
+    drop(types);
     expect_infos(&rt, infos.as_slice());
     drop(infos);
 }
@@ -194,17 +168,15 @@ fn tower(rt: &(impl Abort + AllocGlobal), height: u32) -> UniqueArena<Type> {
 
 /// The info of the last of many types.
 fn expect_last(rt: &impl Abort, infos: &[TypeInfo]) {
-    match infos.last() {
-        Some(info) => expect_info(rt, info, ARRAY, 0xf7, 4),
-        None => panic!(rt; "no type"),
-    }
+    holds!(rt; infos.len() == 100001);
+    expect_info(rt, &infos[100000], ARRAY, 0xf7, 4);
 }
 
 #[test]
 fn types_that_name_each_other_deep(rt: HostRuntime) {
-    let module = module_of(rt.alloc(), tower(&rt, 100000));
-    let infos = made(&rt, infos_of_types(rt.alloc(), &module.types));
-    drop_module(module);
+    let types = tower(&rt, 100000);
+    let infos = made(&rt, infos_of_types(rt.alloc(), &types));
+    drop(types);
     expect_last(&rt, infos.as_slice());
     drop(infos);
 }

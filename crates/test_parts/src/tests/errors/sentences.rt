@@ -6,10 +6,10 @@ use ir_arena::Handle;
 use ir_errors::{GlobalVariableError, MeshFault, VaryingError};
 use std::process::Abort;
 
-/// The fault of a global is never made.
-fn expect_of_global(rt: &impl Abort) {
-    let error = GlobalVariableError::InvalidBindingArray(Handle::new(2));
-    holds!(rt; error.sentence() == "the type can't be in a binding array");
+/// An error has this sentence.
+fn expect_sentence<E: Explain + Drop>(rt: &impl Abort, error: E, sentence: &str) {
+    holds!(rt; error.sentence() == sentence);
+    drop(error);
 }
 
 /// An error of the two sources of a blend.
@@ -41,19 +41,15 @@ static BLENDS: [&str; 5] = [
     "the two blend sources are of different types",
 ];
 
-/// The sentence of such an error.
-fn blend_sentence(index: usize) -> &'static str {
-    blend_error(index).sentence()
-}
-
 #[test]
 fn sentences_that_no_verdict_has(rt: HostRuntime) {
-    expect_of_global(&rt);
+    let of_global = GlobalVariableError::InvalidBindingArray(Handle::new(2));
+    expect_sentence(&rt, of_global, "the type can't be in a binding array");
     for (index, sentence) in BLENDS.iter().enumerate() {
-        holds!(&rt; blend_sentence(index) == *sentence);
+        expect_sentence(&rt, blend_error(index), sentence);
     }
-    let fault = "the type can't be that of a mesh shader's output";
-    holds!(&rt; MeshFault::OutputType.sentence() == fault);
-    let fault = "a member of the type can't be an output of a mesh shader";
-    holds!(&rt; MeshFault::OutputField.sentence() == fault);
+    let sentence = "the type can't be that of a mesh shader's output";
+    expect_sentence(&rt, MeshFault::OutputType, sentence);
+    let sentence = "a member of the type can't be an output of a mesh shader";
+    expect_sentence(&rt, MeshFault::OutputField, sentence);
 }

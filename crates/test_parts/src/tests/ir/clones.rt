@@ -1,6 +1,5 @@
 //! Arenas and their clones keep spans. (That a clone is equal is a clause of each.)
 
-use crate::tests::ir::scalar_type;
 use crate::tests::made;
 use bitflags::Flags;
 use ir_arena::{Arena, Handle, Sequence, Span, Tagged};
@@ -12,7 +11,7 @@ use ir_module::{
     SpecialTypes,
 };
 use ir_statements::{Block, Statement};
-use ir_types::{AddressSpace, UniqueArena};
+use ir_types::{AddressSpace, Type, TypeInner, UniqueArena};
 use std::process::Abort;
 
 const SPAN: Span = Span { start: 4, end: 9 };
@@ -84,7 +83,8 @@ fn entry_points_of_each(rt: &(impl Abort + AllocGlobal)) -> Sequence<EntryPoint>
 /// A module of one of each.
 fn module_of_each(rt: &(impl Abort + AllocGlobal)) -> Module {
     let mut types = UniqueArena::new(rt.alloc());
-    made(rt, types.insert(scalar_type(Scalar::F32), SPAN));
+    let (name, inner) = (None, TypeInner::Scalar(Scalar::F32));
+    made(rt, types.insert(Type { name, inner }, SPAN));
     let global = GlobalVariable {
         space: AddressSpace::Private,
         binding: None,
@@ -121,17 +121,11 @@ fn expect_spans(rt: &impl Abort, module: &Module) {
     expect_of_each(rt, &module.entry_points[0].function);
 }
 
-/// A module of one of each, cloned.
-fn clone_of_each(rt: &(impl Abort + AllocGlobal)) -> Module {
-    let module = module_of_each(rt);
-    let copy = made(rt, module.clone(rt.alloc()));
-    drop_module(module);
-    copy
-}
-
 #[test]
 fn a_module(rt: HostRuntime) {
-    let copy = clone_of_each(&rt);
+    let module = module_of_each(&rt);
+    let copy = made(&rt, module.clone(rt.alloc()));
+    drop_module(module);
     expect_spans(&rt, &copy);
     drop_module(copy);
 }

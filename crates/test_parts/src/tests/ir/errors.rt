@@ -1,13 +1,12 @@
 //! What errors and handles print.
 
-use crate::tests::made;
+use crate::tests::{expect_said, made};
 use bitflags::Flags;
 use ir_arena::{Handle, Refusal, Span, WithSpan, tag};
 use ir_errors::ExpressionError;
 use ir_flags::{Capabilities, ShaderStages};
 use ir_leaves::Name;
 use ir_statements::Operands;
-use std::error::Error;
 use std::fmt::Debug;
 use std::process::Abort;
 
@@ -42,24 +41,12 @@ fn lists_and_names_print_as_such(rt: HostRuntime) {
     assert_prints(&rt, &name, "\"color\"");
 }
 
-/// An error, which is taken as any error, has this text.
-fn assert_says(rt: &(impl Abort + AllocGlobal), error: &impl Error, text: &str) {
-    let said = made(rt, error.to_string(rt.alloc()));
-    holds!(rt; said.as_str() == text);
-}
-
 #[test]
 fn refusals_are_errors(rt: HostRuntime) {
     let fault = WithSpan::new(rt.alloc(), ExpressionError::NotInScope);
     let fault = made(&rt, fault.with_span(Span { start: 3, end: 5 }));
-    assert_says(&rt, &fault, "NotInScope");
+    expect_said(&rt, fault, "NotInScope");
     let fault = WithSpan::new(rt.alloc(), ExpressionError::Lower(4));
-    let refusals = [
-        (Refusal::Fault(fault), "Lower"),
-        (Refusal::Memory, "Memory"),
-    ];
-    for (refusal, text) in &refusals {
-        assert_says(&rt, refusal, text);
-    }
-    drop(refusals);
+    expect_said(&rt, Refusal::Fault(fault), "Lower");
+    expect_said(&rt, Refusal::<ExpressionError>::Memory, "Memory");
 }

@@ -3,28 +3,15 @@
 ghost use Rattle.std.specs.Prelude.{IsTrue};
 ghost use Rattle.ir_types.specs.Types.{ResolutionFits};
 
-use crate::tests::ir::scalar_type;
-use crate::tests::made;
-use ir_arena::{Handle, Range, Span, tag};
+use crate::tests::{made, module_of, put};
+use ir_arena::{Handle, Range, Span};
 use ir_errors::FunctionError;
 use ir_fits::fits_types;
 use ir_leaves::{Scalar, StorageFormat, VectorSize};
 use ir_module::Module;
 use ir_statements::{Block, Statement};
-use ir_types::{AddressSpace, Type, TypeInner, TypeResolution, UniqueArena, compare_types};
+use ir_types::{AddressSpace, TypeInner, TypeResolution, UniqueArena, compare_types};
 use std::process::Abort;
-
-/// A module of this type alone.
-fn module_of(rt: &(impl Abort + AllocGlobal), inner: TypeInner) -> Module {
-    let mut types = UniqueArena::new(rt.alloc());
-    made(
-        rt,
-        types.insert(Type { name: None, inner }, Span::UNDEFINED),
-    );
-    let mut module = Module::new(rt.alloc());
-    module.types = types;
-    module
-}
 
 /// A pointer to type 0 in Function.
 fn pointer() -> TypeInner {
@@ -95,18 +82,12 @@ fn storage_images(rt: HostRuntime) {
     holds!(&rt; Scalar::from(StorageFormat::R64Uint) == Scalar::U64);
 }
 
-/// Puts u32 into an arena that isn't full.
-fn insert(rt: &impl Abort, types: &mut UniqueArena<Type>) -> Handle<tag::Type> {
-    holds!(rt; !types.is_full());
-    made(rt, types.insert(scalar_type(Scalar::U32), Span::UNDEFINED))
-}
-
 /// A type that is put in again has the handle that it had.
 #[test]
 fn a_type_is_kept_once(rt: HostRuntime) {
     let mut types = UniqueArena::new(rt.alloc());
-    let first = insert(&rt, &mut types);
-    let again = insert(&rt, &mut types);
+    let first = put(&rt, &mut types, TypeInner::Scalar(Scalar::U32));
+    let again = put(&rt, &mut types, TypeInner::Scalar(Scalar::U32));
     holds!(&rt; first == again);
     holds!(&rt; types.len() == 1);
     drop(types);

@@ -30,27 +30,14 @@ fn expect_places(
     holds!(rt; *placed == *bare);
 }
 
-/// This is the fault.
-fn expect_fault(rt: &impl Abort, error: ExpressionError) {
-    holds!(rt; error == FAULT);
-}
-
-/// One refusal is not the other.
-fn expect_other(
-    rt: &impl Abort,
-    first: &Refusal<ExpressionError>,
-    second: &Refusal<ExpressionError>,
-) {
-    holds!(rt; *first != *second);
-}
-
 /// A fault keeps the places that it is given, which `==` doesn't compare.
 #[test]
 fn errors_are_placed(rt: HostRuntime) {
     let placed = placed(&rt);
     let bare = WithSpan::new(rt.alloc(), FAULT);
     expect_places(&rt, &placed, &bare);
-    expect_fault(&rt, placed.into_inner());
+    holds!(&rt; placed.into_inner() == FAULT);
     let refusals = [Refusal::Fault(bare), Refusal::from(AllocError)];
-    expect_other(&rt, &refusals[0], &refusals[1]);
+    holds!(&rt; refusals[0] != refusals[1]);
+    drop(refusals);
 }

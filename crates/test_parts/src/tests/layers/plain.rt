@@ -1,14 +1,14 @@
 //! The plain layer, asked by code over any lower layer, which knows its laws alone.
 
 ghost use Rattle.std.specs.Prelude.{◌≡◌, ◌<◌, length};
+ghost use Rattle.ir_types.specs.Types.{ResolutionFits};
+ghost use Rattle.ir_facts.specs.Lawful.{IsNoStruct};
 
-use crate::tests::layers::{
-    HERE, LITERAL, add, composed, expect_kinds, expressions_of_kinds, put, unary,
-};
-use crate::tests::made;
+use crate::tests::layers::{HERE, LITERAL, add, composed, expect_kinds, function_of, unary};
+use crate::tests::{made, put};
 use bitflags::Flags;
 use ir_arena::{Arena, Handle, Refusal, tag};
-use ir_errors::{ExpressionError, FunctionError};
+use ir_errors::FunctionError;
 use ir_facts::{Below, FunctionInfo, ModuleInfo, Settings};
 use ir_flags::{
     Capabilities, GlobalUse, MemoryDecorations, ShaderStages, SubgroupOperationSet, ValidationFlags,
@@ -16,9 +16,9 @@ use ir_flags::{
 use ir_leaves::{Scalar, VectorSize};
 use ir_module::module::drop_module;
 use ir_module::{Expression, Function, GlobalVariable, Module};
-use ir_types::{AddressSpace, TypeInner, TypeResolution};
+use ir_types::{AddressSpace, Type, TypeInner, TypeResolution, UniqueArena};
 use naga_layers::Plain;
-use std::alloc::{AllocError, Global};
+use std::alloc::Global;
 use std::process::Abort;
 
 /// No check, and a target that can do nothing.
@@ -39,15 +39,26 @@ struct Subject<'a> {
     mod_info: &'a ModuleInfo,
 }
 
-/// The info of a function, with one more use of a global, and whether the expression is a struct: by the laws
-/// the expression has a type, the type is there, it is no struct as a value, and the global has a use.
+/// Whether a type is a struct: as a value it is none.
+fn is_struct(resolution: &TypeResolution, types: &UniqueArena<Type>) -> bool
+    requires there { ResolutionFits (length types.now) resolution.now }
+    requires no_struct { IsNoStruct resolution.now }
+{
+    if let TypeResolution::Value(inner) = resolution {
+        prove!(!matches!(inner, TypeInner::Struct { .. }));
+    }
+    matches!(resolution.inner_with(types), TypeInner::Struct { .. })
+}
+
+/// The info of a function, with one more use of a global: by the laws the expression has a type, the type is there, it is no
+/// struct as a value, and the global has a use. It is no struct at all.
 fn with_query<B: Below>(
+    rt: &(impl Abort + AllocGlobal),
     below: &B,
-    alloc: Global,
     subject: &Subject,
     handle: Handle<tag::Expression>,
     global: Handle<tag::GlobalVariable>,
-) -> Result<(FunctionInfo, bool), Refusal<FunctionError>>
+) -> FunctionInfo
     requires expression { handle < length subject.now.fun.now.expressions }
     requires global { global < length subject.now.program.now.global_variables }
 {
@@ -56,48 +67,45 @@ fn with_query<B: Below>(
         program,
         mod_info,
     } = *subject;
-    let Settings {
-        flags,
-        capabilities,
-        ..
-    } = settings();
-    let mut info = below.process_function(alloc, fun, program, mod_info, flags, capabilities)?;
+    let (flags, none) = (ValidationFlags::empty(), Capabilities::empty());
+    let answer = below.process_function(rt.alloc(), fun, program, mod_info, flags, none);
+    let mut info = match answer {
+        Ok(info) => info,
+        Err(_) => panic!(rt; "no info"),
+    };
     info.insert_global_use(GlobalUse::QUERY, global);
-    let resolution = &info.expression_types[handle.index()];
-    if let TypeResolution::Value(inner) = resolution {
-        prove!(!matches!(inner, TypeInner::Struct { .. }));
-    }
-    let is_struct = matches!(
-        resolution.inner_with(&program.types),
-        TypeInner::Struct { .. }
-    );
-    Ok((info, is_struct))
+    holds!(rt; !is_struct(&info.expression_types[handle.index()], &program.types));
+    info
 }
 
-/// Whether the expression is a constant: by the last law it has a kind.
-fn is_constant<B: Below>(
+/// The expression is a constant: by the last law it has a kind.
+fn expect_constant<B: Below>(
+    rt: &(impl Abort + AllocGlobal),
     below: &B,
-    alloc: Global,
     fun: &Function,
     handle: Handle<tag::Expression>,
-) -> Result<bool, AllocError>
+)
     requires { handle < length fun.now.expressions }
 {
-    let kinds = below.kinds(alloc, &fun.expressions)?;
-    Ok(kinds.is_const(handle))
+    let kinds = match below.kinds(rt.alloc(), &fun.expressions) {
+        Ok(kinds) => kinds,
+        Err(_) => panic!(rt; "no memory"),
+    };
+    holds!(rt; kinds.is_const(handle));
+    drop(kinds);
 }
 
 /// The stages of an expression.
 fn stages<B: Below>(
+    rt: &(impl Abort + AllocGlobal),
     below: &B,
-    alloc: Global,
     subject: &Subject,
     info: &FunctionInfo,
     handle: Handle<tag::Expression>,
-) -> Result<ShaderStages, Refusal<ExpressionError>> {
-    let kinds = below.kinds(alloc, &subject.fun.expressions)?;
-    below.validate_expression(
-        alloc,
+) -> ShaderStages {
+    let kinds = made(rt, below.kinds(rt.alloc(), &subject.fun.expressions));
+    let answer = below.validate_expression(
+        rt.alloc(),
         settings(),
         handle,
         subject.fun,
@@ -105,18 +113,24 @@ fn stages<B: Below>(
         info,
         subject.mod_info,
         &kinds,
-    )
+    );
+    drop(kinds);
+    made(rt, answer)
 }
 
-/// What a layer says of a global as the output of a mesh shader, and the size of its type.
-fn output_size<B: Below>(
+/// The type that a layer gives of a global as the output of a mesh shader is of one byte.
+fn expect_output<B: Below>(
+    rt: &(impl Abort + AllocGlobal),
     below: &B,
-    alloc: Global,
     module: &Module,
     global: Handle<tag::GlobalVariable>,
-) -> Result<Option<u32>, AllocError> {
-    let analysis = below.analyze_mesh_shader_info(alloc, module, global)?;
-    Ok(below.type_size(module, analysis.implied.vertex_output_type))
+) {
+    let analysis = made(
+        rt,
+        below.analyze_mesh_shader_info(rt.alloc(), module, global),
+    );
+    let size = below.type_size(module, analysis.implied.vertex_output_type);
+    holds!(rt; size == Some(1));
 }
 
 /// Puts a global of u32 last.
@@ -134,57 +148,41 @@ fn add_global(rt: &impl Abort, globals: &mut Arena<GlobalVariable>) {
     made(rt, globals.append(global, HERE));
 }
 
-/// A module of types 0 bool, 1 u32 and 2 i32, and two globals of u32.
-fn module_of_scalars(rt: &(impl Abort + AllocGlobal)) -> Module {
-    let mut module = Module::new(rt.alloc());
+/// Fills a module with types 0 bool, 1 u32 and 2 i32, and two globals of u32.
+fn put_scalars(rt: &impl Abort, module: &mut Module) {
     put(rt, &mut module.types, TypeInner::Scalar(Scalar::BOOL));
     put(rt, &mut module.types, TypeInner::Scalar(Scalar::U32));
     put(rt, &mut module.types, TypeInner::Scalar(Scalar::I32));
     add_global(rt, &mut module.global_variables);
     add_global(rt, &mut module.global_variables);
-    module
 }
 
-/// A function of the expressions that the plain layer types.
-fn function_of_typed(rt: &(impl Abort + AllocGlobal)) -> Function {
-    let mut fun = Function::new(rt.alloc());
-    add(rt, &mut fun.expressions, LITERAL);
-    add(rt, &mut fun.expressions, unary(rt, &[0]));
-    add(rt, &mut fun.expressions, composed(rt, &[]));
-    add(rt, &mut fun.expressions, Expression::SubgroupBallotResult);
-    add(rt, &mut fun.expressions, Expression::RayQueryProceedResult);
-    add(
-        rt,
-        &mut fun.expressions,
-        Expression::GlobalVariable(Handle::new(1)),
-    );
-    fun
+/// Appends the expressions that the plain layer types.
+fn add_typed(rt: &(impl Abort + AllocGlobal), expressions: &mut Arena<Expression>) {
+    add(rt, expressions, LITERAL);
+    add(rt, expressions, unary(rt, &[0]));
+    add(rt, expressions, composed(rt, &[]));
+    add(rt, expressions, Expression::SubgroupBallotResult);
+    add(rt, expressions, Expression::RayQueryProceedResult);
+    add(rt, expressions, Expression::GlobalVariable(Handle::new(1)));
 }
 
-/// The type of the expression with an index.
-fn type_at(index: usize) -> TypeResolution {
-    let inner = match index {
-        0 | 1 => TypeInner::Scalar(Scalar::U32),
-        2 => return TypeResolution::Handle(Handle::new(2)),
-        3 => TypeInner::Vector {
-            size: VectorSize::Quad,
-            scalar: Scalar::U32,
+/// Whether this is the type of the expression with an index.
+fn is_type_at(found: &TypeResolution, index: usize) -> bool {
+    match found {
+        TypeResolution::Handle(ty) => index == 2 && ty.index() == 2,
+        TypeResolution::Value(TypeInner::Scalar(scalar)) => match index {
+            0 | 1 => *scalar == Scalar::U32,
+            4 => *scalar == Scalar::BOOL,
+            _ => false,
         },
-        4 => TypeInner::Scalar(Scalar::BOOL),
-        _ => TypeInner::Pointer {
-            base: Handle::new(1),
-            space: AddressSpace::Private,
-        },
-    };
-    TypeResolution::Value(inner)
-}
-
-/// What is no refusal.
-fn answered<T, E>(rt: &impl Abort, answer: Result<T, Refusal<E>>) -> T {
-    match answer {
-        Ok(value) => value,
-        Err(Refusal::Memory) => panic!(rt; "no memory"),
-        Err(Refusal::Fault(_)) => panic!(rt; "refused"),
+        TypeResolution::Value(TypeInner::Vector { size, scalar }) => {
+            index == 3 && *size == VectorSize::Quad && *scalar == Scalar::U32
+        }
+        TypeResolution::Value(TypeInner::Pointer { base, space }) => {
+            index == 5 && base.index() == 1 && *space == AddressSpace::Private
+        }
+        TypeResolution::Value(_) => false,
     }
 }
 
@@ -192,7 +190,7 @@ fn answered<T, E>(rt: &impl Abort, answer: Result<T, Refusal<E>>) -> T {
 fn expect_info(rt: &impl Abort, info: &FunctionInfo) {
     holds!(rt; info.expression_types.len() == 6);
     for (index, found) in info.expression_types.as_slice().iter().enumerate() {
-        holds!(rt; *found == type_at(index));
+        holds!(rt; is_type_at(found, index));
     }
     let uses = [
         GlobalUse::empty(),
@@ -205,33 +203,26 @@ fn expect_info(rt: &impl Abort, info: &FunctionInfo) {
 fn expect_answers(rt: &(impl Abort + AllocGlobal), subject: &Subject) {
     let plain = Plain::without_mesh_shaders();
     let (handle, global) = (Handle::new(0), Handle::new(1));
-    let (fun, module) = (subject.fun, subject.program);
-    holds!(rt; fun.expressions.len() == 6);
-    holds!(rt; module.global_variables.len() == 2);
-    holds!(rt; made(rt, is_constant(&plain, rt.alloc(), fun, handle)));
-    let size = made(rt, output_size(&plain, rt.alloc(), module, global));
-    holds!(rt; size == Some(1));
-    let query = with_query(&plain, rt.alloc(), subject, handle, global);
-    let (info, is_struct) = answered(rt, query);
+    holds!(rt; subject.fun.expressions.len() == 6);
+    holds!(rt; subject.program.global_variables.len() == 2);
+    expect_constant(rt, &plain, subject.fun, handle);
+    expect_output(rt, &plain, subject.program, global);
+    let info = with_query(rt, &plain, subject, handle, global);
     expect_info(rt, &info);
-    let left = answered(rt, stages(&plain, rt.alloc(), subject, &info, handle));
+    let left = stages(rt, &plain, subject, &info, handle);
     drop(info);
-    holds!(rt; !is_struct);
     holds!(rt; left == ShaderStages::ALL);
 }
 
 /// Asks of a function.
 fn ask(rt: &(impl Abort + AllocGlobal), fun: &Function, program: &Module) {
     let infos = ModuleInfo::new(rt.alloc());
-    let mod_info = &infos;
-    expect_answers(
-        rt,
-        &Subject {
-            fun,
-            program,
-            mod_info,
-        },
-    );
+    let subject = Subject {
+        fun,
+        program,
+        mod_info: &infos,
+    };
+    expect_answers(rt, &subject);
     drop(infos);
 }
 
@@ -257,13 +248,6 @@ fn refusal_of(alloc: Global, fun: &Function, module: &Module) -> Option<bool> {
     refused
 }
 
-/// A function of one expression.
-fn function_of(rt: &(impl Abort + AllocGlobal), expression: Expression) -> Function {
-    let mut fun = Function::new(rt.alloc());
-    add(rt, &mut fun.expressions, expression);
-    fun
-}
-
 /// An expression has no type in the plain layer. Where memory is refused, the layer is asked again.
 fn expect_refused(rt: &(impl Abort + AllocGlobal), module: &Module, expression: Expression) {
     let fun = function_of(rt, expression);
@@ -277,8 +261,10 @@ fn expect_refused(rt: &(impl Abort + AllocGlobal), module: &Module, expression: 
 
 #[test]
 fn a_lawful_layer_answers(rt: HostRuntime) {
-    let module = module_of_scalars(&rt);
-    let fun = function_of_typed(&rt);
+    let mut module = Module::new(rt.alloc());
+    put_scalars(&rt, &mut module);
+    let mut fun = Function::new(rt.alloc());
+    add_typed(&rt, &mut fun.expressions);
     ask(&rt, &fun, &module);
     expect_refused(&rt, &module, Expression::ZeroValue(Handle::new(3)));
     expect_refused(&rt, &module, Expression::FunctionArgument(0));
@@ -286,16 +272,7 @@ fn a_lawful_layer_answers(rt: HostRuntime) {
     drop_module(module);
 }
 
-/// The kinds of these expressions.
-fn ask_kinds(rt: &(impl Abort + AllocGlobal), expressions: &Arena<Expression>) {
-    let plain = Plain::without_mesh_shaders();
-    let kinds = made(rt, plain.kinds(rt.alloc(), expressions));
-    expect_kinds(rt, &kinds);
-}
-
 #[test]
 fn kinds(rt: HostRuntime) {
-    let expressions = expressions_of_kinds(&rt);
-    ask_kinds(&rt, &expressions);
-    drop(expressions);
+    expect_kinds(&rt, &Plain::without_mesh_shaders());
 }

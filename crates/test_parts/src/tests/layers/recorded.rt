@@ -2,8 +2,8 @@
 //! analysis or a size is missing.
 
 use crate::tests::layers::plain::settings;
-use crate::tests::layers::{LITERAL, add, expect_kinds, expressions_of_kinds, put};
-use crate::tests::made;
+use crate::tests::layers::{LITERAL, expect_kinds, function_of};
+use crate::tests::{made, module_of};
 use bitflags::Flags;
 use ir_arena::{Handle, Refusal, Sequence};
 use ir_errors::{ExpressionError, MeshFault};
@@ -37,8 +37,7 @@ fn analysis(fault: Option<MeshFault>) -> MeshAnalysisFact {
 
 /// The third global's output has a member of a wrong type; nothing is known of the second. The second type's size is known. The
 /// first entry point has an error.
-fn some_facts(rt: &(impl Abort + AllocGlobal)) -> Facts {
-    let mut facts = Facts::new(rt.alloc());
+fn fill(rt: &impl Abort, facts: &mut Facts) {
     made(rt, facts.mesh_analyses.push(Some(analysis(None))));
     made(rt, facts.mesh_analyses.push(None));
     let fault = Some(MeshFault::OutputField);
@@ -47,18 +46,18 @@ fn some_facts(rt: &(impl Abort + AllocGlobal)) -> Facts {
     made(rt, facts.sizes.push(Some(12)));
     let error = LowerFunctionError::InvalidMeshFunctionCall(Handle::new(0));
     made(rt, facts.entry_points.push(FunctionFact::Error(error)));
-    facts
 }
 
-/// A module of one type, without functions, so that the fact of the first entry point is asked for.
-fn module_alone(rt: &(impl Abort + AllocGlobal)) -> Module {
-    let mut module = Module::new(rt.alloc());
-    put(rt, &mut module.types, TypeInner::Scalar(Scalar::U32));
-    module
+/// What is answered of a global: the fault, and the second override.
+#[derive(Clone, Copy)]
+struct Mesh {
+    global: u32,
+    fault: Option<MeshFault>,
+    primitives: Option<u32>,
 }
 
-/// The fault of an answer, and its second override.
-fn fault_of(found: &MeshAnalysis) -> (Option<MeshFault>, Option<u32>) {
+/// Whether an answer is that.
+fn is_found(found: &MeshAnalysis, mesh: &Mesh) -> bool {
     let fault = match &found.fault {
         Some(fault) => Some(*fault.as_inner()),
         None => None,
@@ -67,37 +66,53 @@ fn fault_of(found: &MeshAnalysis) -> (Option<MeshFault>, Option<u32>) {
         Some(handle) => Some(handle.index() as u32),
         None => None,
     };
-    (fault, primitives)
+    fault == mesh.fault && primitives == mesh.primitives
 }
 
-/// What is answered of the global with this handle: the fault, and the second override.
-fn fault_of_mesh(
-    rt: &(impl Abort + AllocGlobal),
-    recorded: &Recorded,
-    module: &Module,
-    handle: u32,
-) -> (Option<MeshFault>, Option<u32>) {
-    let output = Handle::new(handle);
-    let found = made(
-        rt,
-        recorded.analyze_mesh_shader_info(rt.alloc(), module, output),
-    );
-    fault_of(&found)
+/// A global has this answer.
+fn expect_mesh(rt: &(impl Abort + AllocGlobal), recorded: &Recorded, module: &Module, mesh: &Mesh) {
+    let output = Handle::new(mesh.global);
+    let answer = recorded.analyze_mesh_shader_info(rt.alloc(), module, output);
+    let found = made(rt, answer);
+    let is_found = is_found(&found, mesh);
+    drop(found);
+    holds!(rt; is_found);
 }
 
 /// The answers where those are the facts.
+static MESHES: [Mesh; 4] = [
+    Mesh {
+        global: 0,
+        fault: None,
+        primitives: Some(6),
+    },
+    Mesh {
+        global: 1,
+        fault: Some(MeshFault::OutputType),
+        primitives: None,
+    },
+    Mesh {
+        global: 2,
+        fault: Some(MeshFault::OutputField),
+        primitives: Some(6),
+    },
+    Mesh {
+        global: 3,
+        fault: Some(MeshFault::OutputType),
+        primitives: None,
+    },
+];
+
+/// The sizes there.
+static SIZES: [(u32, Option<u32>); 3] = [(0, None), (1, Some(12)), (2, None)];
+
+/// The answers and the sizes are those.
 fn expect_meshes(rt: &(impl Abort + AllocGlobal), recorded: &Recorded, module: &Module) {
-    for (handle, expected) in [
-        (0, (None, Some(6))),
-        (1, (Some(MeshFault::OutputType), None)),
-        (2, (Some(MeshFault::OutputField), Some(6))),
-        (3, (Some(MeshFault::OutputType), None)),
-    ] {
-        holds!(rt; fault_of_mesh(rt, recorded, module, handle) == expected);
+    for mesh in &MESHES {
+        expect_mesh(rt, recorded, module, mesh);
     }
-    for (handle, expected) in [(0, None), (1, Some(12)), (2, None)] {
-        let size = recorded.type_size(module, Handle::new(handle));
-        holds!(rt; size == expected);
+    for &(ty, size) in &SIZES {
+        holds!(rt; recorded.type_size(module, Handle::new(ty)) == size);
     }
 }
 
@@ -122,7 +137,7 @@ fn stages_of(
     let info = empty_info(rt.alloc());
     let infos = ModuleInfo::new(rt.alloc());
     let first = Handle::new(0);
-    recorded.validate_expression(
+    let answer = recorded.validate_expression(
         rt.alloc(),
         settings(),
         first,
@@ -131,38 +146,37 @@ fn stages_of(
         &info,
         &infos,
         &kinds,
-    )
+    );
+    drop(infos);
+    drop(info);
+    drop(kinds);
+    answer
 }
 
 /// Of an expression of a function that has an error it is said that it has none.
-fn expect_no_stages(rt: &impl Abort, answer: &Result<ShaderStages, Refusal<ExpressionError>>) {
-    let fault = match answer {
-        Err(Refusal::Fault(fault)) => Some(*fault.as_inner()),
-        _ => None,
-    };
-    holds!(rt; fault == Some(ExpressionError::Lower(0)));
+fn has_no_stages(answer: &Result<ShaderStages, Refusal<ExpressionError>>) -> bool {
+    match answer {
+        Err(Refusal::Fault(fault)) => matches!(fault.as_inner(), ExpressionError::Lower(0)),
+        _ => false,
+    }
 }
 
-/// A function of one literal.
-fn function_alone(rt: &(impl Abort + AllocGlobal)) -> Function {
-    let mut fun = Function::new(rt.alloc());
-    add(rt, &mut fun.expressions, LITERAL);
-    fun
-}
-
-/// Asks of a function.
+/// Asks of a function of one literal.
 fn ask(rt: &(impl Abort + AllocGlobal), recorded: &Recorded, module: &Module) {
-    let fun = function_alone(rt);
+    let fun = function_of(rt, LITERAL);
     let answer = stages_of(rt, recorded, &fun, module);
     drop(fun);
-    expect_no_stages(rt, &answer);
+    let has_none = has_no_stages(&answer);
     drop(answer);
+    holds!(rt; has_none);
 }
 
+/// The module is of one type, without functions, so that the fact of the first entry point is asked for.
 #[test]
 fn facts(rt: HostRuntime) {
-    let module = module_alone(&rt);
-    let facts = some_facts(&rt);
+    let module = module_of(&rt, TypeInner::Scalar(Scalar::U32));
+    let mut facts = Facts::new(rt.alloc());
+    fill(&rt, &mut facts);
     let recorded = Recorded { facts };
     expect_meshes(&rt, &recorded, &module);
     ask(&rt, &recorded, &module);
@@ -174,9 +188,6 @@ fn facts(rt: HostRuntime) {
 fn kinds(rt: HostRuntime) {
     let facts = Facts::new(rt.alloc());
     let recorded = Recorded { facts };
-    let expressions = expressions_of_kinds(&rt);
-    let kinds = made(&rt, recorded.kinds(rt.alloc(), &expressions));
-    drop(expressions);
+    expect_kinds(&rt, &recorded);
     drop(recorded);
-    expect_kinds(&rt, &kinds);
 }

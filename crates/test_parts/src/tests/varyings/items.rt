@@ -1,10 +1,10 @@
 //! Items after others: what each takes, and what is kept of one that is refused.
 
-use crate::tests::made;
 use crate::tests::varyings::places::at;
+use crate::tests::{made, put};
 use bitflags::Flags;
 use check_varyings::{VaryingPlace, VaryingState, check_varying_item};
-use ir_arena::{Handle, Refusal, Sequence, Span};
+use ir_arena::{Handle, Refusal, Sequence};
 use ir_errors::VaryingError;
 use ir_fits::fits_types;
 use ir_flags::{Capabilities, TypeFlags, ValidationFlags};
@@ -12,7 +12,6 @@ use ir_leaves::{Binding, BuiltIn, Interpolation, Scalar, ShaderStage, VectorSize
 use ir_module::Module;
 use ir_module::module::drop_module;
 use ir_types::{StructMember, Type, TypeInfo, TypeInner, UniqueArena};
-use std::alloc::AllocError;
 use std::process::Abort;
 
 /// Types of the bench.
@@ -45,24 +44,29 @@ const UNSHARED: TypeInfo = TypeInfo {
 const POSITION: Binding = Binding::BuiltIn(BuiltIn::Position { invariant: false });
 
 /// A location, interpolated with perspective.
-fn location(location: u32) -> Binding {
-    Binding::Location {
-        location,
-        interpolation: Some(Interpolation::Perspective),
-        sampling: None,
-        blend_src: None,
-        per_primitive: false,
-    }
+macro_rules! location {
+    ($location:expr) => {
+        Binding::Location {
+            location: $location,
+            interpolation: Some(Interpolation::Perspective),
+            sampling: None,
+            blend_src: None,
+            per_primitive: false,
+        }
+    };
 }
 
-/// Puts a type without a name last.
-fn add(rt: &impl Abort, types: &mut UniqueArena<Type>, inner: TypeInner) {
-    holds!(rt; !types.is_full());
-    made(
-        rt,
-        types.insert(Type { name: None, inner }, Span::UNDEFINED),
-    );
-}
+/// The types and bindings of the members of the structs.
+static OF_BLEND: [(u32, Option<Binding>); 1] = [(VEC4_F32, None)];
+
+static OF_COLLIDING: [(u32, Option<Binding>); 4] = [
+    (VEC4_F32, Some(POSITION)),
+    (F32, Some(location!(1))),
+    (F32, Some(location!(2))),
+    (F32, Some(location!(2))),
+];
+
+static OF_UNBOUND: [(u32, Option<Binding>); 2] = [(F32, Some(location!(3))), (U32, None)];
 
 /// A struct of members with these types and bindings.
 fn structure(
@@ -84,119 +88,138 @@ fn structure(
 }
 
 /// The types of the bench.
-fn add_types(rt: &(impl Abort + AllocGlobal), types: &mut UniqueArena<Type>) {
-    add(rt, types, TypeInner::Scalar(Scalar::U32));
-    add(rt, types, TypeInner::Scalar(Scalar::F32));
+fn put_types(rt: &(impl Abort + AllocGlobal), types: &mut UniqueArena<Type>) {
+    put(rt, types, TypeInner::Scalar(Scalar::U32));
+    put(rt, types, TypeInner::Scalar(Scalar::F32));
     let (size, scalar) = (VectorSize::Quad, Scalar::F32);
-    add(rt, types, TypeInner::Vector { size, scalar });
-    add(rt, types, structure(rt, &[(VEC4_F32, None)], 16));
-    let colliding = [
-        (VEC4_F32, Some(POSITION)),
-        (F32, Some(location(1))),
-        (F32, Some(location(2))),
-        (F32, Some(location(2))),
-    ];
-    add(rt, types, structure(rt, &colliding, 28));
-    let unbound = [(F32, Some(location(3))), (U32, None)];
-    add(rt, types, structure(rt, &unbound, 8));
+    put(rt, types, TypeInner::Vector { size, scalar });
+    put(rt, types, structure(rt, &OF_BLEND, 16));
+    put(rt, types, structure(rt, &OF_COLLIDING, 28));
+    put(rt, types, structure(rt, &OF_UNBOUND, 8));
 }
 
-/// A module of the types.
-fn module_of_types(rt: &(impl Abort + AllocGlobal)) -> Module {
-    let mut module = Module::new(rt.alloc());
-    add_types(rt, &mut module.types);
-    module
-}
-
-/// An item at a place: its type, which is one of the bench, and its binding.
+/// A module of the types, and an info of each.
 #[derive(Clone, Copy)]
-struct Item {
-    place: VaryingPlace,
-    ty: u32,
-    binding: Option<Binding>,
+struct Bench<'a> {
+    module: &'a Module,
+    infos: &'a [TypeInfo],
 }
 
-/// The answer for an item, after what the state has: the fault, if there is one. The last two structs aren't shared.
+/// What an item gets: it is taken, or one of these faults.
+#[derive(Clone, Copy)]
+enum Expected {
+    Taken,
+    Collision(u32),
+    ViewedTwice,
+    Unbound,
+    UnboundMember(u32),
+}
+
+/// An item: its type, which is one of the bench, its binding, and what it gets.
+type Item = (u32, Option<Binding>, Expected);
+
+/// The answer for an item at a place, after what the state has.
 #[tactic(auto, using(ir_facts::proofs::Callers::types_name_each_other))]
 fn answer_of(
     rt: &(impl Abort + AllocGlobal),
-    module: &Module,
+    bench: &Bench,
     state: &mut VaryingState,
-    item: Item,
-) -> Result<Option<VaryingError>, AllocError> {
-    let infos = [GOOD, GOOD, GOOD, GOOD, UNSHARED, UNSHARED];
-    let infos = infos.as_slice();
+    place: &VaryingPlace,
+    item: &Item,
+) -> Result<(), Refusal<VaryingError>> {
+    let (module, infos) = (bench.module, bench.infos);
+    let (ty, binding, _) = *item;
     holds!(rt; fits_types(module));
     holds!(rt; infos.len() == module.types.len());
-    holds!(rt; (item.ty as usize) < module.types.len());
-    let (place, ty) = (&item.place, Handle::new(item.ty));
-    let binding = item.binding;
-    match check_varying_item(rt.alloc(), place, state, &module.types, infos, ty, binding) {
-        Ok(()) => Ok(None),
-        Err(Refusal::Fault(fault)) => Ok(Some(fault.into_inner())),
-        Err(Refusal::Memory) => Err(AllocError),
+    holds!(rt; (ty as usize) < module.types.len());
+    let ty = Handle::new(ty);
+    check_varying_item(rt.alloc(), place, state, &module.types, infos, ty, binding)
+}
+
+/// Whether a fault is the expected one.
+fn is_fault(fault: &VaryingError, expected: Expected) -> bool {
+    match expected {
+        Expected::Taken => false,
+        Expected::Collision(at) => match fault {
+            VaryingError::BindingCollision { location } => *location == at,
+            _ => false,
+        },
+        Expected::ViewedTwice => {
+            matches!(fault, VaryingError::DuplicateBuiltIn(BuiltIn::ViewIndex))
+        }
+        Expected::Unbound => matches!(fault, VaryingError::MissingBinding),
+        Expected::UnboundMember(at) => match fault {
+            VaryingError::MemberMissingBinding(member) => *member == at,
+            _ => false,
+        },
     }
 }
 
-/// A fault is the expected one.
-fn expect_fault(rt: &impl Abort, fault: &Option<VaryingError>, expected: &Option<VaryingError>) {
-    holds!(rt; fault == expected);
+/// Whether an answer is the expected one. None is out of memory.
+fn is_answer(answer: &Result<(), Refusal<VaryingError>>, expected: Expected) -> Option<bool> {
+    match answer {
+        Ok(()) => Some(matches!(expected, Expected::Taken)),
+        Err(Refusal::Fault(fault)) => Some(is_fault(fault.as_inner(), expected)),
+        Err(Refusal::Memory) => None,
+    }
 }
 
-/// An item after what the state has gets this answer. Where there was no memory, the same call is made again, and there is.
+/// Whether an item after what the state has gets what is expected. None is out of memory.
+fn gets(
+    rt: &(impl Abort + AllocGlobal),
+    bench: &Bench,
+    state: &mut VaryingState,
+    place: &VaryingPlace,
+    item: &Item,
+) -> Option<bool> {
+    let answer = answer_of(rt, bench, state, place, item);
+    let is_expected = is_answer(&answer, item.2);
+    drop(answer);
+    is_expected
+}
+
+/// An item after what the state has gets what is expected. Where there was no memory, the same call is made again, and there is.
 fn next(
     rt: &(impl Abort + AllocGlobal),
-    module: &Module,
+    bench: &Bench,
     state: &mut VaryingState,
-    item: Item,
-    expected: Option<VaryingError>,
+    place: &VaryingPlace,
+    item: &Item,
 ) {
-    let fault = match answer_of(rt, module, state, item) {
-        Ok(fault) => fault,
-        Err(_) => made(rt, answer_of(rt, module, state, item)),
+    let is_expected = match gets(rt, bench, state, place, item) {
+        None => gets(rt, bench, state, place, item),
+        answer => answer,
     };
-    expect_fault(rt, &fault, &expected);
+    holds!(rt; matches!(is_expected, Some(true)));
 }
 
-/// An item of a type at a place.
-fn item_at(place: VaryingPlace, ty: u32, binding: Option<Binding>) -> Item {
-    Item { place, ty, binding }
-}
+static TWO_BLENDS: Item = (BLEND, None, Expected::Taken);
+
+static MORE_BLENDS: Item = (BLEND, None, Expected::Collision(0));
 
 /// The two sources of a blend take location 0, and collide there.
-fn blends_twice(rt: &(impl Abort + AllocGlobal), module: &Module) {
+fn blends_twice(rt: &(impl Abort + AllocGlobal), bench: &Bench, state: &mut VaryingState) {
     let mut color = at(ShaderStage::Fragment, true);
-    let mut state = VaryingState::new(rt.alloc());
-    next(rt, module, &mut state, item_at(color, BLEND, None), None);
+    next(rt, bench, state, &color, &TWO_BLENDS);
     holds!(rt; state.has_location(0));
-    let fault = VaryingError::BindingCollision { location: 0 };
-    next(
-        rt,
-        module,
-        &mut state,
-        item_at(color, BLEND, None),
-        Some(fault),
-    );
+    next(rt, bench, state, &color, &MORE_BLENDS);
     color.flags = ValidationFlags::empty();
-    next(rt, module, &mut state, item_at(color, BLEND, None), None);
+    next(rt, bench, state, &color, &TWO_BLENDS);
 }
 
+const VIEW: Binding = Binding::BuiltIn(BuiltIn::ViewIndex);
+
+static A_VIEW: Item = (U32, Some(VIEW), Expected::Taken);
+
+static THE_SAME_VIEW: Item = (U32, Some(VIEW), Expected::ViewedTwice);
+
 /// ViewIndex is there twice, the second time where the target has nothing.
-fn view_twice(rt: &(impl Abort + AllocGlobal), module: &Module) {
+fn view_twice(rt: &(impl Abort + AllocGlobal), bench: &Bench, state: &mut VaryingState) {
     let mut fragment = at(ShaderStage::Fragment, false);
     fragment.flags = ValidationFlags::empty();
-    let view = Some(Binding::BuiltIn(BuiltIn::ViewIndex));
-    let mut state = VaryingState::new(rt.alloc());
-    next(rt, module, &mut state, item_at(fragment, U32, view), None);
+    next(rt, bench, state, &fragment, &A_VIEW);
     fragment.capabilities = Capabilities::empty();
-    let fault = VaryingError::DuplicateBuiltIn(BuiltIn::ViewIndex);
-    next(
-        rt,
-        module,
-        &mut state,
-        item_at(fragment, U32, view),
-        Some(fault),
-    );
+    next(rt, bench, state, &fragment, &THE_SAME_VIEW);
 }
 
 /// What the members at the colliding locations and at Position take is there, or isn't.
@@ -206,62 +229,67 @@ fn expect_taken(rt: &impl Abort, state: &VaryingState, are_taken: bool) {
     holds!(rt; state.has_built_in(BuiltIn::Position { invariant: false }) == are_taken);
 }
 
+static REFUSED: [Item; 3] = [
+    (COLLIDING, None, Expected::Collision(2)),
+    (UNBOUND, None, Expected::UnboundMember(1)),
+    (U32, None, Expected::Unbound),
+];
+
 /// Bindings are checked: nothing is taken.
-fn refuse_members(rt: &(impl Abort + AllocGlobal), module: &Module, state: &mut VaryingState) {
+fn refuse_members(rt: &(impl Abort + AllocGlobal), bench: &Bench, state: &mut VaryingState) {
     let vertex = at(ShaderStage::Vertex, true);
-    let fault = VaryingError::BindingCollision { location: 2 };
-    next(
-        rt,
-        module,
-        state,
-        item_at(vertex, COLLIDING, None),
-        Some(fault),
-    );
-    expect_taken(rt, state, false);
-    let fault = VaryingError::MemberMissingBinding(1);
-    next(
-        rt,
-        module,
-        state,
-        item_at(vertex, UNBOUND, None),
-        Some(fault),
-    );
-    let fault = VaryingError::MissingBinding;
-    next(rt, module, state, item_at(vertex, U32, None), Some(fault));
+    for item in &REFUSED {
+        next(rt, bench, state, &vertex, item);
+        expect_taken(rt, state, false);
+    }
     holds!(rt; !state.has_location(3));
 }
 
+static TAKEN: [Item; 3] = [
+    (COLLIDING, None, Expected::Taken),
+    (UNBOUND, None, Expected::Taken),
+    (U32, None, Expected::Taken),
+];
+
+static A_POSITION: Item = (VEC4_F32, Some(POSITION), Expected::Taken);
+
 /// Bindings aren't checked: what is bound is taken.
-fn take_members(rt: &(impl Abort + AllocGlobal), module: &Module, state: &mut VaryingState) {
+fn take_members(rt: &(impl Abort + AllocGlobal), bench: &Bench, state: &mut VaryingState) {
     let mut vertex = at(ShaderStage::Vertex, true);
     vertex.flags = ValidationFlags::empty();
-    next(rt, module, state, item_at(vertex, COLLIDING, None), None);
-    expect_taken(rt, state, true);
-    next(rt, module, state, item_at(vertex, UNBOUND, None), None);
-    next(rt, module, state, item_at(vertex, U32, None), None);
+    for item in &TAKEN {
+        next(rt, bench, state, &vertex, item);
+        expect_taken(rt, state, true);
+    }
     state.clear_built_ins();
     holds!(rt; state.has_location(3));
-    next(
-        rt,
-        module,
-        state,
-        item_at(vertex, VEC4_F32, Some(POSITION)),
-        None,
-    );
+    next(rt, bench, state, &vertex, &A_POSITION);
 }
 
-/// Members that are refused, and then taken.
-fn expect_members(rt: &(impl Abort + AllocGlobal), module: &Module) {
+/// Asks with three states. Members are refused, and then taken.
+fn ask(rt: &(impl Abort + AllocGlobal), bench: &Bench) {
     let mut state = VaryingState::new(rt.alloc());
-    refuse_members(rt, module, &mut state);
-    take_members(rt, module, &mut state);
+    blends_twice(rt, bench, &mut state);
+    drop(state);
+    let mut state = VaryingState::new(rt.alloc());
+    view_twice(rt, bench, &mut state);
+    drop(state);
+    let mut state = VaryingState::new(rt.alloc());
+    refuse_members(rt, bench, &mut state);
+    take_members(rt, bench, &mut state);
+    drop(state);
 }
 
 #[test]
 fn items_behind_others(rt: HostRuntime) {
-    let module = module_of_types(&rt);
-    blends_twice(&rt, &module);
-    view_twice(&rt, &module);
-    expect_members(&rt, &module);
+    let mut module = Module::new(rt.alloc());
+    put_types(&rt, &mut module.types);
+    // the last two structs aren't shared
+    let infos = [GOOD, GOOD, GOOD, GOOD, UNSHARED, UNSHARED];
+    let bench = Bench {
+        module: &module,
+        infos: infos.as_slice(),
+    };
+    ask(&rt, &bench);
     drop_module(module);
 }

@@ -99,15 +99,9 @@ pub(crate) fn at(stage: ShaderStage, output: bool) -> VaryingPlace {
 }
 
 /// What is said of a built-in at a place is what is said of it at another, but for where it is visible.
-fn expect_at(
-    rt: &impl Abort,
-    built_in: BuiltIn,
-    place: &VaryingPlace,
-    other: &BuiltInRule,
-    is_visible: bool,
-) {
+fn expect_at(rt: &impl Abort, built_in: BuiltIn, place: &VaryingPlace, other: &BuiltInRule) {
     let rule = builtin_rule(built_in, place);
-    holds!(rt; rule.visible == is_visible);
+    holds!(rt; rule.visible == is_visible_at(built_in, place, other.visible));
     holds!(rt; rule.required == other.required);
     holds!(rt; rule.mesh_shader == other.mesh_shader);
 }
@@ -124,26 +118,36 @@ fn is_of_primitives(built_in: BuiltIn, place: &VaryingPlace) -> bool {
     }
 }
 
-/// The output of a mesh changes what is visible of primitives alone, and the task payload that DrawIndex goes into a mesh.
-fn compare(rt: &impl Abort, built_in: BuiltIn, plain: VaryingPlace) {
-    let rule = builtin_rule(built_in, &plain);
-    let mut place = plain;
-    place.has_task_payload = true;
-    let is_drawn = built_in == BuiltIn::DrawIndex && plain.stage == ShaderStage::Mesh;
-    let with_payload = rule.visible && !is_drawn;
-    expect_at(rt, built_in, &place, &rule, with_payload);
-    place.mesh_output = MeshOutputType::VertexOutput;
-    expect_at(rt, built_in, &place, &rule, with_payload);
-    place.mesh_output = MeshOutputType::PrimitiveOutput;
-    let of_primitives = is_of_primitives(built_in, &plain);
-    let among_primitives = with_payload || of_primitives;
-    expect_at(rt, built_in, &place, &rule, among_primitives);
-    place.has_task_payload = false;
-    let among_primitives = rule.visible || of_primitives;
-    expect_at(rt, built_in, &place, &rule, among_primitives);
-    place.mesh_output = MeshOutputType::VertexOutput;
-    let is_visible = rule.visible;
-    expect_at(rt, built_in, &place, &rule, is_visible);
+/// Whether a built-in that is visible elsewhere, or isn't, is visible at a place. The output of a mesh changes what is visible of
+/// primitives alone, and the task payload that DrawIndex goes into a mesh.
+fn is_visible_at(built_in: BuiltIn, place: &VaryingPlace, elsewhere: bool) -> bool {
+    let is_of_draws = matches!(built_in, BuiltIn::DrawIndex);
+    if place.has_task_payload && is_of_draws && place.stage == ShaderStage::Mesh {
+        false
+    } else if place.mesh_output == MeshOutputType::PrimitiveOutput {
+        elsewhere || is_of_primitives(built_in, place)
+    } else {
+        elsewhere
+    }
+}
+
+/// Other places: whether there is a task payload, and the output of a mesh.
+static OTHERS: [(bool, MeshOutputType); 5] = [
+    (true, MeshOutputType::Neither),
+    (true, MeshOutputType::VertexOutput),
+    (true, MeshOutputType::PrimitiveOutput),
+    (false, MeshOutputType::PrimitiveOutput),
+    (false, MeshOutputType::VertexOutput),
+];
+
+/// What is said of a built-in at a place and at the others.
+fn compare(rt: &impl Abort, built_in: BuiltIn, mut place: VaryingPlace) {
+    let rule = builtin_rule(built_in, &place);
+    for &(has_task_payload, mesh_output) in &OTHERS {
+        place.has_task_payload = has_task_payload;
+        place.mesh_output = mesh_output;
+        expect_at(rt, built_in, &place, &rule);
+    }
 }
 
 #[test]
