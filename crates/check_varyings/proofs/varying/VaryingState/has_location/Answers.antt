@@ -3,5 +3,5 @@ use Rattle.check_varyings.proofs.varying.VaryingState.has_location.Goals as goal
 
 -- what edits of the gate leave open
 
-pub returns-then-location-lt64 : goal.returns-then-location-lt64
-returns-then-location-lt64 c = search rules
+pub contains-requires : goal.contains-requires
+contains-requires c = search rules
